@@ -1,0 +1,129 @@
+-- Document 01, "Figures to hold it to": cases 1 to 10 as one table, and one theorem: each figure that the definitions give is the one due.
+-- By computation. Every case starts from accounts in a day's slices; 9 and 10 go through the calls of a period.
+use mathlib.Core.Path.{_≡_, refl}
+use mathlib.Core.List.{List, [], _∷_, _++_, map}
+use Prim.Native.Nat.{ℕ, suc, _+_, _-_, _*_}
+use lib.IntN.{ℤ, pos}
+use lib.ListN.{length, getD}
+use Rattle.methodology.specs.Account.{Opening, DayInput, members, accounts, kindH, kindR, kindA, kindU}
+use Rattle.methodology.specs.Member.{memberUnder, memberOwn}
+use Rattle.methodology.specs.Day.{total, maxEul, dailies}
+use Rattle.methodology.specs.Register.{Register, start, opening, day, closing, step, buffer}
+use Rattle.methodology.proofs.Samples.{computed, Line, acct, minus, losing, dayOf}
+
+-- a case: the figures that the definitions give, and those that document 01 has
+pub record Case : Type 0 where
+  pub got : List ℤ
+  pub due : List ℤ
+
+infix 95 _is_
+infix 95 _is-signed_
+abbrev _is_ : List ℕ → List ℕ → Case
+got is due = record { got = map pos got; due = map pos due }
+
+abbrev _is-signed_ : List ℤ → List ℤ → Case
+got is-signed due = record { got = got; due = due }
+
+-- house accounts with the given EULs, of members from the first on
+abbrev houses : (first : ℕ) → List ℤ → List Line
+houses first [] = []
+houses first (e ∷ es) = losing first 0 kindH e ∷ houses (suc first) es
+
+-- client accounts of member 1, by kind and EUL, numbered from the first on
+abbrev clients : (first : ℕ) → List (ℕ × ℤ) → List Line
+clients first [] = []
+clients first (c ∷ cs) = losing 1 first (c .0) (c .1) ∷ clients (suc first) cs
+
+-- a period of one scenario, with a group number for each member
+abbrev groups : List ℕ → Opening
+groups gs = record { n = length gs; k = 1; groups = gs }
+
+-- the six members of 001, by Position Account STV and Margin Balance, the first one's margin as given
+abbrev illustrative : (margin : ℕ) → DayInput
+illustrative margin =
+    dayOf 1
+    (acct 1 0 kindH (pos 1000) margin 0 (pos 0 ∷ [])
+    ∷ acct 2 0 kindH (pos 300) 100 0 (pos 0 ∷ [])
+    ∷ acct 3 0 kindH (pos 500) 250 0 (pos 0 ∷ [])
+    ∷ acct 4 0 kindH (pos 800) 300 0 (pos 0 ∷ [])
+    ∷ acct 5 0 kindH (pos 600) 400 0 (pos 0 ∷ [])
+    ∷ acct 6 0 kindH (pos 400) 200 0 (pos 0 ∷ [])
+    ∷ [])
+
+-- of these T, Max EUL, and one after another the given columns of what the day writes
+abbrev columns : List ℕ → (out : List ℕ) → List ℕ
+columns [] out = []
+columns (c ∷ cs) out = map (λ m. getD out (5 * (m - 1) + c) 0) (members 6) ++ columns cs out
+
+abbrev illustrated : (margin : ℕ) → (cs : List ℕ) → List ℕ
+illustrated margin cs =
+    let o = groups (0 ∷ 0 ∷ 0 ∷ 0 ∷ 0 ∷ 0 ∷ []) in
+    let accts = accounts 1 (illustrative margin) in
+    total o accts ∷ maxEul o accts ∷ columns cs (dailies o accts)
+
+-- member 1's EUL under the one scenario and its own, from its house EUL and its clients
+abbrev member-euls : (house : ℤ) → List (ℕ × ℤ) → List ℤ
+member-euls house cs =
+    let accts = accounts 1 (dayOf 1 (losing 1 0 kindH house ∷ clients 1 cs)) in
+    memberUnder accts 1 1 ∷ memberOwn 1 accts 1 ∷ []
+
+abbrev max-of : Opening → List Line → List ℕ
+max-of o lines = maxEul o (accounts (o .k) (dayOf 1 lines)) ∷ []
+
+-- what the closing writes of a period without groups whose members' losses on days 1, 2, .. are given
+abbrev days-from : (number : ℕ) → Register → List (List ℤ) → Register
+days-from number g [] = g
+days-from number g (es ∷ ess) = days-from (suc number) (step g (day (dayOf number (houses 1 es)) (5 * g .held .n))) ess
+
+abbrev closed : Opening → List (List ℤ) → List ℕ
+closed o ess = buffer (days-from 1 (step start (opening o)) ess) (closing (3 * o .n)) []
+
+pub cases : List Case
+cases =
+    -- 1: T, Max EUL, losses, shares, values, reserves; and the estimates as 001, 6.1.2 has them
+    illustrated 550 (0 ∷ 1 ∷ 2 ∷ 3 ∷ 4 ∷ [])
+    is (1800 ∷ 500
+    ∷ 450 ∷ 200 ∷ 250 ∷ 500 ∷ 200 ∷ 200
+    ∷ 250000000000 ∷ 111111111112 ∷ 138888888889 ∷ 277777777778 ∷ 111111111112 ∷ 111111111112
+    ∷ 12500 ∷ 5556 ∷ 6944 ∷ 13889 ∷ 5556 ∷ 5556
+    ∷ 13750 ∷ 6111 ∷ 7639 ∷ 15278 ∷ 6111 ∷ 6111
+    ∷ 27500 ∷ 12222 ∷ 15278 ∷ 30556 ∷ 12222 ∷ 12222
+    ∷ [])
+    -- 2: with a margin of 700 the first loss is 300; T, Max EUL, losses, values and reserves as 001, 6.2 has them
+    ∷ illustrated 700 (0 ∷ 2 ∷ 3 ∷ [])
+    is (1650 ∷ 500
+    ∷ 300 ∷ 200 ∷ 250 ∷ 500 ∷ 200 ∷ 200
+    ∷ 9091 ∷ 6061 ∷ 7576 ∷ 15152 ∷ 6061 ∷ 6061
+    ∷ 10000 ∷ 6667 ∷ 8333 ∷ 16667 ∷ 6667 ∷ 6667
+    ∷ [])
+    -- 3: House -40; R 60, 50, 30, -25; U 20; A 10: EUL 100
+    ∷ member-euls (minus 40)
+    ((kindR, pos 60) ∷ (kindR, pos 50) ∷ (kindR, pos 30) ∷ (kindR, minus 25) ∷ (kindU, pos 20) ∷ (kindA, pos 10) ∷ [])
+    is-signed (pos 100 ∷ pos 100 ∷ [])
+    -- 4: House 0; R 10, 10; U 100: EUL 160
+    ∷ member-euls (pos 0) ((kindR, pos 10) ∷ (kindR, pos 10) ∷ (kindU, pos 100) ∷ []) is-signed (pos 160 ∷ pos 160 ∷ [])
+    -- 5: House 0; R five times 3: EUL 8
+    ∷ member-euls (pos 0) ((kindR, pos 3) ∷ (kindR, pos 3) ∷ (kindR, pos 3) ∷ (kindR, pos 3) ∷ (kindR, pos 3) ∷ [])
+    is-signed (pos 8 ∷ pos 8 ∷ [])
+    -- 6: Affiliates 100 and -30 under one scenario: Max EUL 100
+    ∷ max-of (groups (1 ∷ 1 ∷ [])) (houses 1 (pos 100 ∷ minus 30 ∷ [])) is (100 ∷ [])
+    -- 7: Affiliates 100 and 80, a third member 150: Max EUL 180
+    ∷ max-of (groups (1 ∷ 1 ∷ 0 ∷ [])) (houses 1 (pos 100 ∷ pos 80 ∷ pos 150 ∷ [])) is (180 ∷ [])
+    -- 8: Affiliates, one losing 100 under 1 only, the other 80 under 2 only, no margins: Max EUL 100
+    ∷ max-of (record { n = 2; k = 2; groups = 1 ∷ 1 ∷ [] })
+    (acct 1 0 kindH (pos 100) 0 0 (pos 0 ∷ pos 100 ∷ []) ∷ acct 2 0 kindH (pos 80) 0 0 (pos 80 ∷ pos 0 ∷ []) ∷ [])
+    is (100 ∷ [])
+    -- 9: One day, three losses of 200,000,000: raw 73,333,334 each
+    ∷ closed (groups (0 ∷ 0 ∷ 0 ∷ [])) ((pos 200000000 ∷ pos 200000000 ∷ pos 200000000 ∷ []) ∷ [])
+    is (73333334 ∷ 73333334 ∷ 146666668
+    ∷ 73333334 ∷ 73333334 ∷ 146666668
+    ∷ 73333334 ∷ 73333334 ∷ 146666668
+    ∷ [])
+    -- 10: Days (100m, 100m) and (0, 600m): funded 165,000,000 and 495,000,000
+    ∷ closed (groups (0 ∷ 0 ∷ [])) ((pos 100000000 ∷ pos 100000000 ∷ []) ∷ (pos 0 ∷ pos 600000000 ∷ []) ∷ [])
+    is (165000000 ∷ 165000000 ∷ 330000000 ∷ 495000000 ∷ 495000000 ∷ 990000000 ∷ [])
+    ∷ []
+
+pub ten-figures : map (λ (c : Case). c .got) cases ≡ map (λ (c : Case). c .due) cases
+unfolding cases computed
+ten-figures = refl

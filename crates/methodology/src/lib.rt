@@ -1,0 +1,23 @@
+// The types that the definitions in specs/ share with the code of the crates that use this one. There is no code here.
+
+// What names an account of a day: its member, its account number and its kind. The fields take any number, since a wrong one is an answer
+// (row 5 of the refusal table) and nothing that a caller must rule out.
+pub struct Heading {
+    pub member: u64,
+    pub number: u64,
+    pub kind: u64,
+}
+
+// A period is fresh, open or closed.
+pub enum Status {
+    Fresh,
+    Open,
+    Closed,
+}
+
+// What the refusal table says of a call: no row is met, a row, or a row with the index of the first bad account.
+pub enum Refusal {
+    Clear,
+    Row(u64),
+    RowAt(u64, u64),
+}

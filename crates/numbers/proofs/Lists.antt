@@ -1,0 +1,273 @@
+-- Lists: members, ranges, tables, parts, kept elements, and the first that passes a test. An element is read by `getD`.
+-- A law about each element takes a function on the members, `(x : A) → x ∈ xs → ..`; `by-index` makes one of a fact about each index.
+use mathlib.Core.Path.{_≡_, refl, sym, ap, ap₂, _∙_, subst}
+use mathlib.Core.Bool.{Bool, true, false, cond, _&&_, _||_, or-assoc, or-true, true≢false}
+use mathlib.Core.List.{List, [], _∷_, _++_, map}
+use mathlib.Core.List.{List·Memᴰ, List·Memᴰ·head as here, List·Memᴰ·tail as there, List·Memᴰ·not-nil}
+use Prim.Native.Nat.{ℕ, zero, suc, _+_, _-_, _≤_, _<_}
+use native.Mathlib.Omega.{arith}
+use native.Mathlib.Numerals.{add-one}
+use native.Mathlib.Nat.{not-suc-le-zero, le-of-suc-le-suc, add-zero, zero-add, suc-add, add-suc, sub-zero, zero-sub, suc-sub-suc}
+use lib.ListN.{length, getD, take, drop, length-map, length-drop, drop-of-length-le}
+use lib.Seq.{drop-cons, drop-drop, take-nil, take-take, getD-take, getD-drop, length-take-le, ext-getD}
+use Rattle.numbers.specs.Lists.{range, keep, any, firstWhere}
+
+infix 50 _∈_
+-- x is one of the elements
+abbrev pub _∈_ : {A : Type 0} → A → List A → Type 0
+x ∈ xs = List·Memᴰ x xs
+
+-- the element at an index is a member, and each member stands at an index
+pub mem-at : {A : Type 0} (xs : List A) (d : A) {i : ℕ} → i < length xs → getD xs i d ∈ xs
+mem-at [] d h = absurd (not-suc-le-zero h)
+mem-at (x ∷ xs) d {i = zero} h = here refl
+mem-at (x ∷ xs) d {i = suc i} h = there (mem-at xs d (le-of-suc-le-suc h))
+
+pub mem-index : {A : Type 0} {x : A} {xs : List A} (d : A) → x ∈ xs → (i : ℕ) × (i < length xs) × (getD xs i d ≡ x)
+mem-index d (here e) = (0, omega arith, sym e)
+mem-index d (there m) = let (i, h, e) = mem-index d m in (suc i, omega arith, e)
+
+pub by-index : {A : Type 0} (P : A → Type 0) (xs : List A) (d : A) → ((i : ℕ) → i < length xs → P (getD xs i d)) → (x : A) → x ∈ xs → P x
+by-index P xs d h x m = let (i, k, e) = mem-index d m in subst P e (h i k)
+
+-- ranges
+pub range-length : (a n : ℕ) → length (range a n) ≡ n
+unfolding range
+range-length a zero = refl
+range-length a (suc n) = ap suc (range-length (suc a) n)
+
+pub range-at : (a n i d : ℕ) → i < n → getD (range a n) i d ≡ a + i
+unfolding range
+range-at a zero i d h = absurd (not-suc-le-zero h)
+range-at a (suc n) zero d h = sym (add-zero a)
+range-at a (suc n) (suc i) d h = range-at (suc a) n i d (le-of-suc-le-suc h) ∙ omega arith
+
+pub range-drop : (a n i : ℕ) → drop i (range a n) ≡ range (a + i) (n - i)
+unfolding range
+range-drop a n zero = rw (add-zero, sub-zero)
+range-drop a zero (suc i) = rw zero-sub
+range-drop a (suc n) (suc i) = rw (add-suc, ← suc-add, suc-sub-suc) (range-drop (suc a) n i)
+
+pub range-append : (a m n : ℕ) → range a (m + n) ≡ range a m ++ range (a + m) n
+unfolding range
+range-append a zero n = rw (add-zero, zero-add)
+range-append a (suc m) n = rw (suc-add, add-suc, ← suc-add) (ap (λ (l : List ℕ). a ∷ l) (range-append (suc a) m n))
+
+-- one more at the end
+pub range-more : (a n : ℕ) → range a (suc n) ≡ range a n ++ ((a + n) ∷ [])
+unfolding range
+range-more a n = ap (range a) (sym (add-one n)) ∙ range-append a n 1
+
+-- the members of a range
+pub mem-range : {x : ℕ} (a n : ℕ) → x ∈ range a n → (a ≤ x) × (x < a + n)
+mem-range a n m = let (i, h, e) = mem-index 0 m in let k : i < n = omega (arith, range-length a n) in omega (arith, range-at a n i 0 k)
+
+pub range-mem : {x : ℕ} (a n : ℕ) → a ≤ x → x < a + n → x ∈ range a n
+range-mem {x} a n h k =
+    let l : x - a < n = omega arith in
+    let e : a + (x - a) ≡ x = omega arith in
+    subst (λ (y : ℕ). y ∈ range a n) (range-at a n (x - a) 0 l ∙ e) (mem-at (range a n) 0 (omega (arith, range-length a n)))
+
+-- what a map gives for a part and for an element, and when two maps are equal; the library has the rest
+module _ {A B : Type 0} (f : A → B) where
+  pub map-take : (xs : List A) (n : ℕ) → map f (take n xs) ≡ take n (map f xs)
+  map-take xs zero = refl
+  map-take [] (suc n) = refl
+  map-take (x ∷ xs) (suc n) = ap (λ (l : List B). f x ∷ l) (map-take xs n)
+
+  pub map-drop : (xs : List A) (n : ℕ) → map f (drop n xs) ≡ drop n (map f xs)
+  map-drop xs zero = refl
+  map-drop [] (suc n) = refl
+  map-drop (x ∷ xs) (suc n) = map-drop xs n
+
+  pub map-at : (xs : List A) (i : ℕ) (d : A) (e : B) → i < length xs → getD (map f xs) i e ≡ f (getD xs i d)
+  map-at [] i d e h = absurd (not-suc-le-zero h)
+  map-at (x ∷ xs) zero d e h = refl
+  map-at (x ∷ xs) (suc i) d e h = map-at xs i d e (le-of-suc-le-suc h)
+
+pub map-eq : {A B : Type 0} (f g : A → B) (xs : List A) → ((x : A) → x ∈ xs → f x ≡ g x) → map f xs ≡ map g xs
+map-eq f g [] h = refl
+map-eq f g (x ∷ xs) h = ap₂ _∷_ (h x (here refl)) (map-eq f g xs (λ y m. h y (there m)))
+
+-- a table: f at n numbers from a on
+module _ {B : Type 0} (f : ℕ → B) (a n : ℕ) where
+  pub table-length : length (map f (range a n)) ≡ n
+  table-length = length-map (range a n) f ∙ range-length a n
+
+  pub table-at : (i : ℕ) (d : B) → i < n → getD (map f (range a n)) i d ≡ f (a + i)
+  table-at i d h = map-at f (range a n) i 0 d (omega (arith, range-length a n)) ∙ ap f (range-at a n i 0 h)
+
+  pub table-drop : (i : ℕ) → drop i (map f (range a n)) ≡ map f (range (a + i) (n - i))
+  table-drop i = sym (map-drop f (range a n) i) ∙ ap (map f) (range-drop a n i)
+
+  pub is-table : (d : B) (l : List B) → length l ≡ n → ((i : ℕ) → i < n → getD l i d ≡ f (a + i)) → l ≡ map f (range a n)
+  is-table d l e h = ext-getD d l (map f (range a n)) (e ∙ sym table-length) (λ i k. let k′ : i < n = omega arith in h i k′ ∙ sym (table-at i d k′))
+
+-- a part: n elements from a on
+module _ {A : Type 0} where
+  pub part-length : (a n : ℕ) (l : List A) → a + n ≤ length l → length (take n (drop a l)) ≡ n
+  part-length a n l h = length-take-le n (drop a l) (omega (arith, length-drop a l))
+
+  pub part-at : (a n : ℕ) (l : List A) (i : ℕ) (d : A) → i < n → getD (take n (drop a l)) i d ≡ getD l (a + i) d
+  part-at a n l i d h = getD-take n (drop a l) i d h ∙ getD-drop a l i d
+
+  pub drop-take : (n m : ℕ) (l : List A) → drop n (take m l) ≡ take (m - n) (drop n l)
+  drop-take zero m l = rw sub-zero
+  drop-take (suc n) zero l = rw zero-sub
+  drop-take (suc n) (suc m) [] = rw take-nil
+  drop-take (suc n) (suc m) (x ∷ l) = rw suc-sub-suc (drop-take n m l)
+
+  pub part-part : (a n b m : ℕ) (l : List A) → b + m ≤ n → take m (drop b (take n (drop a l))) ≡ take m (drop (a + b) l)
+  part-part a n b m l h = let k : m ≤ n - b = omega arith in rw (drop-take, take-take m (n - b), drop-drop)
+
+-- the elements that pass a test
+module _ {A : Type 0} (p : A → Bool) where
+  pub keep-append : (xs ys : List A) → keep p (xs ++ ys) ≡ keep p xs ++ keep p ys
+  unfolding keep
+  keep-append [] ys = refl
+  keep-append (x ∷ xs) ys = rw (keep-append xs ys) (by (p x))
+    where
+      by : (t : Bool) → cond t (x ∷ (keep p xs ++ keep p ys)) (keep p xs ++ keep p ys) ≡ cond t (x ∷ keep p xs) (keep p xs) ++ keep p ys
+      by true = refl
+      by false = refl
+
+  pub keep-length : (xs : List A) → length (keep p xs) ≤ length xs
+  unfolding keep
+  keep-length [] = omega arith
+  keep-length (x ∷ xs) = by (p x) (keep-length xs)
+    where
+      by : (t : Bool) → length (keep p xs) ≤ length xs → length (cond t (x ∷ keep p xs) (keep p xs)) ≤ suc (length xs)
+      by true h = omega arith
+      by false h = omega arith
+
+  pub mem-keep : {x : A} (xs : List A) → x ∈ keep p xs → (x ∈ xs) × (p x ≡ true)
+  unfolding keep
+  mem-keep [] m = absurd (List·Memᴰ·not-nil m)
+  mem-keep {x} (y ∷ ys) m = by (p y) refl (mem-keep ys) m
+    where
+      by : (t : Bool) → p y ≡ t → (x ∈ keep p ys → (x ∈ ys) × (p x ≡ true)) → x ∈ cond t (y ∷ keep p ys) (keep p ys) → (x ∈ (y ∷ ys)) × (p x ≡ true)
+      by true e h (here q) = (here q, ap p q ∙ e)
+      by true e h (there m) = (there (h m .0), h m .1)
+      by false e h m = (there (h m .0), h m .1)
+
+  pub keep-mem : {x : A} {xs : List A} → x ∈ xs → p x ≡ true → x ∈ keep p xs
+  unfolding keep
+  keep-mem {x} (here e) h = rw (ap p (sym e) ∙ h) (here e)
+  keep-mem {x} (there {x = y} {xs = ys} m) h = by (p y) (keep-mem m h)
+    where
+      by : (t : Bool) → x ∈ keep p ys → x ∈ cond t (y ∷ keep p ys) (keep p ys)
+      by true k = there k
+      by false k = k
+
+pub keep-eq : {A : Type 0} (p q : A → Bool) (xs : List A) → ((x : A) → x ∈ xs → p x ≡ q x) → keep p xs ≡ keep q xs
+unfolding keep
+keep-eq p q [] h = refl
+keep-eq p q (x ∷ xs) h = rw (h x (here refl), keep-eq p q xs (λ y m. h y (there m)))
+
+pub keep-keep : {A : Type 0} (p q : A → Bool) (xs : List A) → keep p (keep q xs) ≡ keep (λ x. q x && p x) xs
+unfolding keep
+keep-keep p q [] = refl
+keep-keep p q (x ∷ xs) = rw (← keep-keep p q xs) (by (q x) (p x) refl)
+  where
+    by : (s t : Bool) → p x ≡ t → keep p (cond s (x ∷ keep q xs) (keep q xs)) ≡ cond (s && t) (x ∷ keep p (keep q xs)) (keep p (keep q xs))
+    by true true e = rw e
+    by true false e = rw e
+    by false t e = refl
+
+pub keep-all : {A : Type 0} (p : A → Bool) (xs : List A) → ((x : A) → x ∈ xs → p x ≡ true) → keep p xs ≡ xs
+unfolding keep
+keep-all p [] h = refl
+keep-all p (x ∷ xs) h = rw (h x (here refl), keep-all p xs (λ y m. h y (there m)))
+
+pub keep-none : {A : Type 0} (p : A → Bool) (xs : List A) → ((x : A) → x ∈ xs → p x ≡ false) → keep p xs ≡ []
+unfolding keep
+keep-none p [] h = refl
+keep-none p (x ∷ xs) h = rw (h x (here refl), keep-none p xs (λ y m. h y (there m)))
+
+-- whether any element passes a test: it fails at each member where none does, and passes at one where one does
+neither : (s t : Bool) → (s || t) ≡ false → (s ≡ false) × (t ≡ false)
+neither true t e = (e, cc)
+neither false t e = (refl, e)
+
+module _ {A : Type 0} (p : A → Bool) where
+  pub any-append : (xs ys : List A) → any p (xs ++ ys) ≡ (any p xs || any p ys)
+  unfolding any
+  any-append [] ys = refl
+  any-append (x ∷ xs) ys = ap (λ (t : Bool). p x || t) (any-append xs ys) ∙ sym (or-assoc (p x) (any p xs) (any p ys))
+
+  pub any-false : {x : A} {xs : List A} → any p xs ≡ false → x ∈ xs → p x ≡ false
+  unfolding any
+  any-false e (here q) = ap p q ∙ neither _ _ e .0
+  any-false e (there {x = y} {xs = ys} m) = any-false (neither (p y) (any p ys) e .1) m
+
+  pub none-any : (xs : List A) → ((x : A) → x ∈ xs → p x ≡ false) → any p xs ≡ false
+  unfolding any
+  none-any [] h = refl
+  none-any (x ∷ xs) h = rw (h x (here refl)) (none-any xs (λ y m. h y (there m)))
+
+  pub any-true : (xs : List A) → any p xs ≡ true → (x : A) × (x ∈ xs) × (p x ≡ true)
+  unfolding any
+  any-true [] e = absurd (true≢false (sym e))
+  any-true (x ∷ xs) e = by (p x) refl e (any-true xs)
+    where
+      by : (t : Bool) → p x ≡ t → (t || any p xs) ≡ true → (any p xs ≡ true → (y : A) × (y ∈ xs) × (p y ≡ true)) → (y : A) × (y ∈ (x ∷ xs)) × (p y ≡ true)
+      by true q e h = (x, here refl, q)
+      by false q e h = let (y, m, k) = h e in (y, there m, k)
+
+  pub some-any : {x : A} {xs : List A} → x ∈ xs → p x ≡ true → any p xs ≡ true
+  unfolding any
+  some-any (here e) h = rw (ap p (sym e) ∙ h)
+  some-any (there {x = y} m) h = rw (some-any m h) (or-true (p y))
+
+-- the first that passes a test: all before it fail, it passes if there is one, and no other index is so
+module _ {A : Type 0} (p : A → Bool) where
+  pub first-le : (xs : List A) → firstWhere p xs ≤ length xs
+  unfolding firstWhere
+  first-le [] = omega arith
+  first-le (x ∷ xs) = by (p x) (first-le xs)
+    where
+      by : (t : Bool) → firstWhere p xs ≤ length xs → cond t 0 (suc (firstWhere p xs)) ≤ suc (length xs)
+      by true h = omega arith
+      by false h = omega arith
+
+  pub first-before : (xs : List A) (i : ℕ) (d : A) → i < firstWhere p xs → p (getD xs i d) ≡ false
+  unfolding firstWhere
+  first-before [] i d h = absurd (not-suc-le-zero h)
+  first-before (x ∷ xs) i d h = by (p x) refl i h (λ j. first-before xs j d)
+    where
+      by : (t : Bool) → p x ≡ t → (i : ℕ) → i < cond t 0 (suc (firstWhere p xs)) → ((j : ℕ) → j < firstWhere p xs → p (getD xs j d) ≡ false) → p (getD (x ∷ xs) i d) ≡ false
+      by true q i h f = absurd (not-suc-le-zero h)
+      by false q zero h f = q
+      by false q (suc i) h f = f i (le-of-suc-le-suc h)
+
+  pub first-at : (xs : List A) (d : A) → firstWhere p xs < length xs → p (getD xs (firstWhere p xs) d) ≡ true
+  unfolding firstWhere
+  first-at [] d h = absurd (not-suc-le-zero h)
+  first-at (x ∷ xs) d h = by (p x) refl h (first-at xs d)
+    where
+      by : (t : Bool) → p x ≡ t → cond t 0 (suc (firstWhere p xs)) < suc (length xs) → (firstWhere p xs < length xs → p (getD xs (firstWhere p xs) d) ≡ true) → p (getD (x ∷ xs) (cond t 0 (suc (firstWhere p xs))) d) ≡ true
+      by true q h f = q
+      by false q h f = f (le-of-suc-le-suc h)
+
+  pub first-is : (xs : List A) (i : ℕ) (d : A) → i ≤ length xs → ((j : ℕ) → j < i → p (getD xs j d) ≡ false) → (i < length xs → p (getD xs i d) ≡ true) → firstWhere p xs ≡ i
+  unfolding firstWhere
+  first-is [] i d h f g = omega arith
+  first-is (x ∷ xs) zero d h f g = rw (g (omega arith))
+  first-is (x ∷ xs) (suc i) d h f g = rw (f 0 (omega arith)) (ap suc (first-is xs i d (le-of-suc-le-suc h) (λ j k. f (suc j) (omega arith)) (λ k. g (omega arith))))
+
+  -- the search as a loop: what was found so far, one further, and at the end
+  pub first-more : (xs : List A) (i : ℕ) (d : A) → i < length xs → p (getD xs i d) ≡ false → firstWhere p xs ≡ i + firstWhere p (drop i xs) → firstWhere p xs ≡ (i + 1) + firstWhere p (drop (i + 1) xs)
+  unfolding firstWhere
+  first-more xs i d h q e =
+      let step : firstWhere p (drop i xs) ≡ suc (firstWhere p (drop (suc i) xs)) = rw (drop-cons xs i d h, q) in
+      rw add-one (omega arith)
+
+  pub first-stop : (xs : List A) (i : ℕ) (d : A) → i < length xs → p (getD xs i d) ≡ true → firstWhere p xs ≡ i + firstWhere p (drop i xs) → firstWhere p xs ≡ i
+  unfolding firstWhere
+  first-stop xs i d h q e =
+      let here : firstWhere p (drop i xs) ≡ 0 = rw (drop-cons xs i d h, q) in
+      omega arith
+
+  pub first-end : (xs : List A) (i : ℕ) → length xs ≤ i → firstWhere p xs ≡ i + firstWhere p (drop i xs) → firstWhere p xs ≡ i
+  unfolding firstWhere
+  first-end xs i h e = rw (drop-of-length-le xs h, add-zero) at e

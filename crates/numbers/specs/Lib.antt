@@ -1,0 +1,5 @@
+pub mod Signed
+pub mod Lists
+pub mod Sums
+pub mod Fractions
+pub mod Rounding
