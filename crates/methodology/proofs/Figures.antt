@@ -2,12 +2,14 @@
 -- By computation. Every case starts from accounts in a day's slices; 9 and 10 go through the calls of a period.
 use mathlib.Core.Path.{_≡_, refl}
 use mathlib.Core.List.{List, [], _∷_, _++_, map}
-use Prim.Native.Nat.{ℕ, suc, _+_, _-_, _*_}
+use Prim.Native.Nat.{ℕ, suc, _+_, _-_, _*_, min}
 use lib.IntN.{ℤ, pos}
 use lib.ListN.{length, getD}
+use Rattle.numbers.specs.Fractions.{Fraction, _over_}
 use Rattle.methodology.specs.Account.{Opening, DayInput, members, accounts, kindH, kindR, kindA, kindU}
 use Rattle.methodology.specs.Member.{memberUnder, memberOwn}
 use Rattle.methodology.specs.Day.{total, maxEul, dailies}
+use Rattle.methodology.specs.Contribution.{exactCharge, allowance, shortfall}
 use Rattle.methodology.specs.Register.{Register, start, opening, day, closing, step, buffer}
 use Rattle.methodology.proofs.Samples.{computed, Line, acct, minus, losing, dayOf}
 
@@ -18,6 +20,7 @@ pub record Case : Type 0 where
 
 infix 95 _is_
 infix 95 _is-signed_
+infix 75 _is-fraction_
 abbrev _is_ : List ℕ → List ℕ → Case
 got is due = record { got = map pos got; due = map pos due }
 
@@ -127,3 +130,27 @@ cases =
 pub ten-figures : map (λ (c : Case). c .got) cases ≡ map (λ (c : Case). c .due) cases
 unfolding cases computed
 ten-figures = refl
+
+-- what demand 3 holds cases 9 and 10 to, with nothing rounded: a fraction is p over q where its cross products agree and its denominator is
+-- above 0
+abbrev _is-fraction_ : Fraction → Fraction → Case
+x is-fraction y = (x .num * y .den ∷ min 1 (x .den) ∷ []) is (y .num * x .den ∷ 1 ∷ [])
+
+abbrev exact : List (List ℤ) → Opening → (m : ℕ) → Fraction
+exact ess o m = exactCharge o (days-from 1 (step start (opening o)) ess .days) m
+
+pub exact-cases : List Case
+exact-cases =
+    -- 9: the exact charge is 73,333,333 and a third
+    exact ((pos 200000000 ∷ pos 200000000 ∷ pos 200000000 ∷ []) ∷ []) (groups (0 ∷ 0 ∷ 0 ∷ [])) 3 is-fraction 220000000 over 3
+    -- 10: and here each is whole
+    ∷ exact ((pos 100000000 ∷ pos 100000000 ∷ []) ∷ (pos 0 ∷ pos 600000000 ∷ []) ∷ []) (groups (0 ∷ 0 ∷ [])) 1 is-fraction 165000000 over 1
+    ∷ exact ((pos 100000000 ∷ pos 100000000 ∷ []) ∷ (pos 0 ∷ pos 600000000 ∷ []) ∷ []) (groups (0 ∷ 0 ∷ [])) 2 is-fraction 495000000 over 1
+    -- the allowance is 1 and 1.1 dollars where M is 10^12, and the printed month's second member falls short by 39,275,000
+    ∷ allowance 1000000000000 is-fraction 21 over 10
+    ∷ map shortfall (10725000 ∷ 50000000 ∷ 418275000 ∷ []) is (39275000 ∷ 0 ∷ 0 ∷ [])
+    ∷ []
+
+pub exact-figures : map (λ (c : Case). c .got) exact-cases ≡ map (λ (c : Case). c .due) exact-cases
+unfolding exact-cases computed
+exact-figures = refl

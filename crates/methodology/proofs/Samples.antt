@@ -6,12 +6,13 @@ use lib.ListN.{replicate}
 use Rattle.numbers.specs.Signed.{_⁺, _⁻}
 use Rattle.numbers.specs.Lists.{range, keep, any, firstWhere, insert, descending}
 use Rattle.numbers.specs.Sums.{Σ, Σℤ, greatest}
+use Rattle.numbers.specs.Fractions.{Σᶠ}
 use Rattle.numbers.specs.Rounding.{ceilDiv, roundDiv}
 use Rattle.methodology.specs.declared.Heading.{Heading}
 use Rattle.methodology.specs.Account.{DayInput, accountAt, accounts, decrease, eulOf, eulUnder, largestDecrease, ownEul}
 use Rattle.methodology.specs.Member.{accountsOf, houseEul, halfOfClients, twoLargestOfR, partB, partC, memberEul, memberUnder, memberOwn, loss}
 use Rattle.methodology.specs.Day.{total, groupOf, groupSum, maxEul, share, value, reserve, estimate, five, dailies}
-use Rattle.methodology.specs.Contribution.{highest, sumOfShares, charge, raw, funded, unfunded, three, contributions, totalFunded}
+use Rattle.methodology.specs.Contribution.{highest, sumOfShares, charge, raw, funded, unfunded, exactCharge, shortfall, allowance, three, contributions, totalFunded}
 use Rattle.methodology.specs.Refusals.{
   row_when_else_,
   row_at_when_else_,
@@ -30,7 +31,7 @@ use Rattle.methodology.specs.Register.{Register, Call, opening, day, clo
 
 -- Who unfolds this unfolds every definition on its line, so that the examples compute.
 unfoldable pub computed : Unit {0}
-unfolding flatMap range keep any firstWhere insert descending Σ Σℤ greatest ceilDiv roundDiv accountAt accounts decrease eulOf eulUnder largestDecrease ownEul accountsOf houseEul halfOfClients twoLargestOfR partB partC memberEul memberUnder memberOwn loss total groupOf groupSum maxEul share value reserve estimate five dailies highest sumOfShares charge raw funded unfunded three contributions totalFunded row_when_else_ row_at_when_else_ badOpening openingRefusal badDayNumber badLengths badHeading firstBadHeading lastMissing badAmount dayRefusal closingRefusal refusal accept step returned written answer buffer
+unfolding flatMap range keep any firstWhere insert descending Σ Σℤ greatest Σᶠ ceilDiv roundDiv accountAt accounts decrease eulOf eulUnder largestDecrease ownEul accountsOf houseEul halfOfClients twoLargestOfR partB partC memberEul memberUnder memberOwn loss total groupOf groupSum maxEul share value reserve estimate five dailies highest sumOfShares charge raw funded unfunded exactCharge shortfall allowance three contributions totalFunded row_when_else_ row_at_when_else_ badOpening openingRefusal badDayNumber badLengths badHeading firstBadHeading lastMissing badAmount dayRefusal closingRefusal refusal accept step returned written answer buffer
 computed = tt
 
 pub record Line : Type 0 where
