@@ -1,0 +1,73 @@
+-- The pass over the members that finds each one's loss and T. A member's accounts are the part between two cuts.
+use mathlib.Core.Path.{_≡_, refl, sym, ap, ap₂, _∙_}
+use mathlib.Core.List.{List, [], _∷_, _++_, map, map-append}
+use Prim.Native.Nat.{ℕ, _+_, _-_, _*_, _≤_, _<_}
+use native.Mathlib.Numerals.{add-one}
+use native.Mathlib.Omega.{arith}
+use lib.IntN.{ℤ}
+use lib.ListN.{length, take, drop, set, length-set, replicate}
+use lib.Seq.{take-suc-set}
+use Rattle.numbers.specs.Lists.{range}
+use Rattle.numbers.specs.Sums.{Σ}
+use Rattle.numbers.proofs.Sums.{Σ-snoc}
+use Rattle.methodology.specs.Account.{Account}
+use Rattle.methodology.specs.Member.{loss}
+use Rattle.methodology.specs.Refusals.{limit}
+use Rattle.validation.specs.Slices.{Lent}
+use Rattle.exposure.specs.declared.day.Losses.{Losses}
+use Rattle.exposure.specs.Cut.{Owners, Cut}
+use Rattle.exposure.specs.Day.{Sizable, LossIs, LossesAre}
+use Rattle.exposure.proofs.More.{upto-more}
+use Rattle.exposure.proofs.Members.{cut-start, own-part, loss-of}
+
+pub record LossPass (n k : ℕ) (holders kinds : List ℕ) (npvs : List ℤ) (margins extras each : List ℕ) (total at i : ℕ) : Type 0 where
+  pub high : i ≤ n
+  pub cut : Cut holders (i + 1) at
+  pub long : length each ≡ 32
+  pub bound : total ≤ 3 * limit * at
+  pub each-are : (accts : List Account) → Lent k kinds npvs margins extras accts → Owners holders accts → take i each ≡ map (loss k accts) (range 1 i)
+  pub total-is : (accts : List Account) → Lent k kinds npvs margins extras accts → Owners holders accts → total ≡ Σ (range 1 i) (loss k accts)
+
+module _ {n k : ℕ} {holders kinds : List ℕ} {npvs : List ℤ} {margins extras : List ℕ} (s : Sizable n k holders kinds npvs margins extras) where
+  pub loss-none : LossPass n k holders kinds npvs margins extras (replicate 32 0) 0 0 0
+  unfolding range Σ
+  loss-none =
+      record {
+        high = omega arith;
+        cut = cut-start (s .rising);
+        long = refl;
+        bound = omega arith;
+        each-are = λ accts l o. refl;
+        total-is = λ accts l o. refl;
+      }
+
+  module _ {each : List ℕ} {total at i : ℕ} (p : LossPass n k holders kinds npvs margins extras each total at i) where
+    -- where the next member's accounts end
+    pub end-le : {end : ℕ} → Cut holders (i + 1 + 1) end → end ≤ length kinds
+    end-le c = omega (arith, c .below .within, s .same)
+
+    pub sum-small : {end e : ℕ} → at ≤ end → Cut holders (i + 1 + 1) end → LossIs k kinds npvs margins extras at end e → total + e ≤ 3 * limit * end
+    sum-small h c l = omega (arith, p .bound, l .bound)
+
+    module _ (h : i < n) (end e : ℕ) (le : at ≤ end) (c : Cut holders (i + 1 + 1) end) (l : LossIs k kinds npvs margins extras at end e) where
+      e-is : (accts : List Account) → Lent k kinds npvs margins extras accts → Owners holders accts → e ≡ loss k accts (i + 1)
+      e-is accts t o = l .is accts t ∙ sym (loss-of k (i + 1) accts (take (end - at) (drop at accts)) (own-part o (p .cut) c))
+
+      pub loss-more : LossPass n k holders kinds npvs margins extras (set each i e) (total + e) end (i + 1)
+      loss-more =
+          record {
+            high = omega arith;
+            cut = c;
+            long = length-set each i e ∙ p .long;
+            bound = sum-small le c l;
+            each-are =
+                λ accts t o.
+                rw (upto-more i, map-append, ← p .each-are accts t o, ← e-is accts t o, add-one i)
+                (take-suc-set each i e (omega (arith, p .long, s .members-few)));
+            total-is = λ accts t o. rw (upto-more i, Σ-snoc) (ap₂ _+_ (p .total-is accts t o) (e-is accts t o));
+          }
+
+    pub loss-all : n ≤ i → LossesAre n k holders kinds npvs margins extras (record { each = each; total = total })
+    loss-all h =
+        let e : i ≡ n = omega (arith, p .high) in
+        record { each = λ accts t o. rw e at (p .each-are accts t o); total = λ accts t o. rw e at (p .total-is accts t o) }

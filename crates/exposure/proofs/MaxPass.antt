@@ -1,0 +1,217 @@
+-- The pass over the members that finds Max EUL: the greatest EUL of the members passed, and the rows of their groups. One member's row joins
+-- one group's, number by number.
+use mathlib.Core.Path.{_≡_, refl, sym, ap, ap₂, _∙_, fun-ext}
+use mathlib.Core.Bool.{Bool, true, false, cond}
+use mathlib.Core.List.{List, [], _∷_, map}
+use Prim.Native.Nat.{ℕ, zero, suc, _+_, _-_, _*_, _≤_, _<_, _^_, max}
+use native.Mathlib.Nat.{zero-add}
+use native.Mathlib.Omega.{arith}
+use lib.Dec.{ltb, eqb}
+use lib.IntN.{ℤ, pos, natAbs, _+ℤ_}
+use lib.ListN.{length, getD, take, drop, set, length-set, replicate, getD-replicate, length-replicate}
+use lib.Seq.{getD-set-same, getD-set-other}
+use borrow.Author.Tests.{eqb-true, eqb-false}
+use Rattle.numbers.specs.Signed.{_⁺}
+use Rattle.numbers.specs.Lists.{range}
+use Rattle.numbers.specs.Sums.{greatest}
+use Rattle.numbers.proofs.Signed.{abs-add}
+use Rattle.numbers.proofs.Lists.{mem-range, is-table, table-at, table-length, map-eq}
+use Rattle.numbers.proofs.Sums.{greatest-snoc, greatest-map, greatest-eq}
+use Rattle.methodology.specs.Account.{Opening, Account, members, scenarios}
+use Rattle.methodology.specs.Member.{memberUnder}
+use Rattle.methodology.specs.Day.{groupNumber, maxEul}
+use Rattle.methodology.specs.Refusals.{limit}
+use Rattle.validation.specs.Slices.{Lent}
+use Rattle.exposure.specs.Cut.{Owners, Cut}
+use Rattle.exposure.specs.Groups.{rowUpto, groupRow}
+use Rattle.exposure.specs.Rows.{rowOf, plus, Near, Shape, withRow}
+use Rattle.exposure.specs.Day.{Sizable, RowIs, MaxIs}
+use Rattle.exposure.proofs.More.{upto-more}
+use Rattle.exposure.proofs.Members.{cut-start, own-part, under-of}
+use Rattle.exposure.proofs.Groups.{row-none, row-in, row-out, max-by-rows}
+use Rattle.exposure.proofs.Tables.{zero-at, plus-row, plus-long, plus-bound, row-greatest}
+
+-- the period that the group numbers are of
+abbrev pub opened : (k : ℕ) → (groups : List ℕ) → Opening
+opened k groups = record { n = length groups; k = k; groups = groups }
+
+-- rows within a bound
+pub record Rows (most : ℕ) (rows : List (List ℤ)) : Type 0 where
+  pub tall : length rows ≡ 32
+  pub wide : (g : ℕ) → g < 32 → length (getD rows g []) ≡ 16
+  pub bound : (g x : ℕ) → g < 32 → natAbs (getD (getD rows g []) x (pos 0)) ≤ most
+
+pub shape : {most : ℕ} {rows : List (List ℤ)} → most ≤ 2 ^ 61 → Rows most rows → Shape rows
+shape h r = record { tall = r .tall; wide = r .wide; near = λ g l. record { at = λ x. omega (arith, r .bound g x l) } }
+
+-- no member passed: all rows are 0
+zeros : (k : ℕ) (f : ℕ → ℤ) → ((j : ℕ) → f j ≡ pos 0) → rowOf k f ≡ replicate 16 (pos 0)
+unfolding rowOf range
+zeros k f h = map-eq (λ x. cond (ltb x k) (f (suc x)) (pos 0)) (λ x. pos 0) (range 0 16) (λ x m. by x (ltb x k))
+  where
+    by : (x : ℕ) (t : Bool) → cond t (f (suc x)) (pos 0) ≡ pos 0
+    by x true = h (suc x)
+    by x false = refl
+
+none-rows : Rows 0 (replicate 32 (replicate 16 (pos 0)))
+none-rows =
+    record {
+      tall = length-replicate 32 (replicate 16 (pos 0));
+      wide = λ g h. rw (getD-replicate 32 g (replicate 16 (pos 0)) [] h) (length-replicate 16 (pos 0));
+      bound = λ g x h. rw (getD-replicate 32 g (replicate 16 (pos 0)) [] h, zero-at 16 x) (omega arith);
+    }
+
+-- a row joins its group's: the others stay, and none grows past the sum of the bounds
+module _ {most : ℕ} {rows : List (List ℤ)} (row : List ℤ) (more : ℕ) (r : Rows most rows) (l : length row ≡ 16) (b : (x : ℕ) → natAbs (getD row x (pos 0)) ≤ more) where
+  with-rows : (group : ℕ) → group ≤ 32 → Rows (most + more) (withRow rows group row)
+  unfolding withRow
+  with-rows zero h = record { tall = r .tall; wide = r .wide; bound = λ g x k. omega (arith, r .bound g x k) }
+  with-rows (suc g₀) h =
+      record {
+        tall = length-set rows g₀ (plus (getD rows g₀ []) row) ∙ r .tall;
+        wide = λ g k. wide-by g (eqb g g₀) refl k;
+        bound = λ g x k. bound-by g x (eqb g g₀) refl k;
+      }
+    where
+      wide-by : (g : ℕ) (t : Bool) → eqb g g₀ ≡ t → g < 32 → length (getD (set rows g₀ (plus (getD rows g₀ []) row)) g []) ≡ 16
+      wide-by g true q k =
+          let e = eqb-true g g₀ q in
+          rw (e, getD-set-same rows g₀ (plus (getD rows g₀ []) row) [] (omega (arith, r .tall))) (plus-long (getD rows g₀ []) row)
+      wide-by g false q k = rw (getD-set-other rows g₀ g (plus (getD rows g₀ []) row) [] (eqb-false g g₀ q)) (r .wide g k)
+
+      bound-by : (g x : ℕ) (t : Bool) → eqb g g₀ ≡ t → g < 32 → natAbs (getD (getD (set rows g₀ (plus (getD rows g₀ []) row)) g []) x (pos 0)) ≤ most + more
+      bound-by g x true q k =
+          let e = eqb-true g g₀ q in
+          rw (e, getD-set-same rows g₀ (plus (getD rows g₀ []) row) [] (omega (arith, r .tall)))
+          (plus-bound (getD rows g₀ []) row (λ y. r .bound g₀ y (omega arith)) b x)
+      bound-by g x false q k =
+          rw (getD-set-other rows g₀ g (plus (getD rows g₀ []) row) [] (eqb-false g g₀ q)) (omega (arith, r .bound g x k))
+
+-- the rows of all groups, when the first i members are passed
+abbrev rowsAt : (k : ℕ) → (groups : List ℕ) → List Account → (i : ℕ) → List (List ℤ)
+rowsAt k groups accts i = map (λ g. rowOf k (rowUpto (opened k groups) accts i g)) (range 1 32)
+
+module _ (k : ℕ) (groups : List ℕ) (accts : List Account) where
+  rows-none : replicate 32 (replicate 16 (pos 0)) ≡ rowsAt k groups accts 0
+  rows-none =
+      is-table (λ g. rowOf k (rowUpto (opened k groups) accts 0 g)) 1 32 [] (replicate 32 (replicate 16 (pos 0))) (length-replicate 32 (replicate 16 (pos 0)))
+      (λ x h. getD-replicate 32 x (replicate 16 (pos 0)) [] h ∙ sym (zeros k (rowUpto (opened k groups) accts 0 (1 + x)) (λ j. row-none (opened k groups) accts (1 + x) j)))
+
+  -- member i + 1's row
+  abbrev rowNext : (i : ℕ) → List ℤ
+  rowNext i = rowOf k (λ j. memberUnder accts (i + 1) j)
+
+  group-next : (i : ℕ) → groupNumber (opened k groups) (i + 1) ≡ getD groups i 0
+  group-next i = let e : i + 1 - 1 ≡ i = omega arith in ap (λ (n : ℕ). getD groups n 0) e
+
+  -- where member i + 1 is not of group g, and where it is
+  stays : (i g : ℕ) → (getD groups i 0 ≡ g → ⊥) → rowOf k (rowUpto (opened k groups) accts i g) ≡ rowOf k (rowUpto (opened k groups) accts (i + 1) g)
+  stays i g n = ap (rowOf k) (fun-ext (λ j. sym (row-out (opened k groups) accts g j i (λ e. n (sym (group-next i) ∙ e)))))
+
+  joins : (i g : ℕ) → getD groups i 0 ≡ g → plus (rowOf k (rowUpto (opened k groups) accts i g)) (rowNext i) ≡ rowOf k (rowUpto (opened k groups) accts (i + 1) g)
+  joins i g e =
+      plus-row k (rowUpto (opened k groups) accts i g) (λ j. memberUnder accts (i + 1) j)
+      ∙ ap (rowOf k) (fun-ext (λ j. sym (row-in (opened k groups) accts g j i (group-next i ∙ e))))
+
+  rows-by : (i group : ℕ) → getD groups i 0 ≡ group → group ≤ 32 → withRow (rowsAt k groups accts i) group (rowNext i) ≡ rowsAt k groups accts (i + 1)
+  unfolding withRow
+  rows-by i zero e l =
+      map-eq _ _ (range 1 32) (λ g m. stays i g (λ q. let r = mem-range 1 32 m in omega arith))
+  rows-by i (suc g₀) e l =
+      is-table next 1 32 [] (set (rowsAt k groups accts i) g₀ (plus (getD (rowsAt k groups accts i) g₀ []) (rowNext i)))
+      (length-set (rowsAt k groups accts i) g₀ (plus (getD (rowsAt k groups accts i) g₀ []) (rowNext i)) ∙ table-length now 1 32)
+      (λ x h. by x (eqb x g₀) refl h)
+    where
+      now : ℕ → List ℤ
+      now g = rowOf k (rowUpto (opened k groups) accts i g)
+
+      next : ℕ → List ℤ
+      next g = rowOf k (rowUpto (opened k groups) accts (i + 1) g)
+
+      by : (x : ℕ) (t : Bool) → eqb x g₀ ≡ t → x < 32 → getD (set (rowsAt k groups accts i) g₀ (plus (getD (rowsAt k groups accts i) g₀ []) (rowNext i))) x [] ≡ next (1 + x)
+      by x true q h =
+          let same = eqb-true x g₀ q in
+          let h₀ : g₀ < 32 = omega arith in
+          let f : getD groups i 0 ≡ 1 + g₀ = omega arith in
+          rw same
+          (getD-set-same (rowsAt k groups accts i) g₀ (plus (getD (rowsAt k groups accts i) g₀ []) (rowNext i)) [] (omega (arith, table-length now 1 32))
+          ∙ ap (λ (r : List ℤ). plus r (rowNext i)) (table-at now 1 32 g₀ [] h₀)
+          ∙ joins i (1 + g₀) f)
+      by x false q h =
+          getD-set-other (rowsAt k groups accts i) g₀ x (plus (getD (rowsAt k groups accts i) g₀ []) (rowNext i)) [] (eqb-false x g₀ q)
+          ∙ table-at now 1 32 x [] h
+          ∙ stays i (1 + x) (λ z. eqb-false x g₀ q (omega arith))
+
+  -- the greatest of all rows
+  rows-greatest : k ≤ 16 → (i : ℕ) → greatest (rowsAt k groups accts i) (λ row. greatest row (λ z. z ⁺)) ≡ greatest (range 1 32) (λ g. greatest (scenarios k) (λ j. rowUpto (opened k groups) accts i g j ⁺))
+  rows-greatest h i =
+      greatest-map _ (range 1 32) (λ row. greatest row (λ z. z ⁺))
+      ∙ greatest-eq (range 1 32) _ _ (λ g m. row-greatest k (rowUpto (opened k groups) accts i g) h)
+
+pub record MaxPass (k : ℕ) (groups holders kinds : List ℕ) (npvs : List ℤ) (margins extras : List ℕ) (rows : List (List ℤ)) (top at i : ℕ) : Type 0 where
+  pub high : i ≤ length groups
+  pub cut : Cut holders (i + 1) at
+  pub bounded : Rows (3 * limit * at) rows
+  pub rows-are : (accts : List Account) → Lent k kinds npvs margins extras accts → Owners holders accts → rows ≡ rowsAt k groups accts i
+  pub top-is :
+      (accts : List Account) → Lent k kinds npvs margins extras accts → Owners holders accts
+      → top ≡ greatest (range 1 i) (λ m. greatest (scenarios k) (λ j. memberUnder accts m j ⁺))
+
+module _ {k : ℕ} {groups holders kinds : List ℕ} {npvs : List ℤ} {margins extras : List ℕ} (s : Sizable (length groups) k holders kinds npvs margins extras) where
+  pub max-none : MaxPass k groups holders kinds npvs margins extras (replicate 32 (replicate 16 (pos 0))) 0 0 0
+  unfolding range greatest
+  max-none =
+      record {
+        high = omega arith;
+        cut = cut-start (s .rising);
+        bounded = none-rows;
+        rows-are = λ accts l o. rows-none k groups accts;
+        top-is = λ accts l o. refl;
+      }
+
+  module _ {rows : List (List ℤ)} {top at i : ℕ} (p : MaxPass k groups holders kinds npvs margins extras rows top at i) where
+    pub end-le : {end : ℕ} → Cut holders (i + 1 + 1) end → end ≤ length kinds
+    end-le c = omega (arith, c .below .within, s .same)
+
+    pub rows-shape : Shape rows
+    rows-shape = shape (omega (arith, p .cut .below .within, s .same, s .within .few)) (p .bounded)
+
+    module _ (end : ℕ) (row : List ℤ) (le : at ≤ end) (c : Cut holders (i + 1 + 1) end) (r : RowIs k kinds npvs margins extras at end row) where
+      pub row-near : Near row
+      row-near = record { at = λ x. omega (arith, r .bound x, end-le c, s .within .few) }
+
+      row-next : (accts : List Account) → Lent k kinds npvs margins extras accts → Owners holders accts → row ≡ rowNext k groups accts i
+      row-next accts l o =
+          r .is accts l
+          ∙ ap (rowOf k) (fun-ext (λ j. sym (under-of (i + 1) j accts (take (end - at) (drop at accts)) (own-part o (p .cut) c))))
+
+      pub max-more : i < length groups → getD groups i 0 ≤ 32 → (most next : ℕ) → most ≡ greatest row (λ z. z ⁺) → next ≡ max top most
+          → MaxPass k groups holders kinds npvs margins extras (withRow rows (getD groups i 0) row) next end (i + 1)
+      max-more h g most next e f =
+          let sum : 3 * limit * at + 3 * limit * (end - at) ≡ 3 * limit * end = omega arith in
+          record {
+            high = omega arith;
+            cut = c;
+            bounded = rw sum at (with-rows row (3 * limit * (end - at)) (p .bounded) (r .long) (r .bound) (getD groups i 0) g);
+            rows-are = λ accts l o. rw (p .rows-are accts l o, row-next accts l o) (rows-by k groups accts i (getD groups i 0) refl g);
+            top-is =
+                λ accts l o.
+                rw (upto-more i, greatest-snoc)
+                (f ∙ ap₂ max (p .top-is accts l o) (e ∙ ap (λ (x : List ℤ). greatest x (λ z. z ⁺)) (row-next accts l o) ∙ row-greatest k (memberUnder accts (i + 1)) (s .scenarios-few)));
+          }
+
+    pub max-all : length groups ≤ i → ((x : ℕ) → x < length groups → getD groups x 0 ≤ 32) → (most r : ℕ) → most ≡ greatest rows (λ row. greatest row (λ z. z ⁺)) → r ≡ max top most
+        → MaxIs k groups holders kinds npvs margins extras r
+    max-all h g most r e f =
+        let n : i ≡ length groups = omega (arith, p .high) in
+        record {
+          is =
+              λ accts l o.
+              f
+              ∙ ap₂ max
+              (p .top-is accts l o ∙ ap (λ (x : ℕ). greatest (range 1 x) (λ m. greatest (scenarios k) (λ j. memberUnder accts m j ⁺))) n)
+              (e ∙ ap (λ (x : List (List ℤ)). greatest x (λ row. greatest row (λ z. z ⁺))) (p .rows-are accts l o)
+              ∙ rows-greatest k groups accts (s .scenarios-few) i
+              ∙ ap (λ (x : ℕ). greatest (range 1 32) (λ m. greatest (scenarios k) (λ j. rowUpto (opened k groups) accts x m j ⁺))) n)
+              ∙ sym (max-by-rows (opened k groups) accts 32 (λ m q. let z = mem-range 1 (length groups) q in g (m - 1) (omega arith)));
+        }

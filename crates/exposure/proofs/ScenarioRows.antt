@@ -1,0 +1,61 @@
+-- A member's row of EULs, filled scenario by scenario, for any accounts that the slices hold.
+use mathlib.Core.Path.{_≡_, refl, sym, ap, _∙_, fun-ext}
+use mathlib.Core.List.{List}
+use Prim.Native.Nat.{ℕ, suc, _+_, _*_, _≤_, _<_, _^_}
+use native.Mathlib.Numerals.{add-one}
+use native.Mathlib.Omega.{arith}
+use lib.IntN.{ℤ, pos, natAbs}
+use lib.Signed.{mag}
+use lib.ListN.{length, getD, set, length-set, replicate, length-replicate}
+use borrow.Author.Tests.{ne-eqb}
+use mir.Syntax.{w64}
+use mir.Val.{toZ, ofZ}
+use Rattle.numbers.proofs.Signed.{back-ok}
+use Rattle.methodology.specs.Account.{Account, eulUnder}
+use Rattle.methodology.specs.Member.{memberEul}
+use Rattle.methodology.specs.Refusals.{limit}
+use Rattle.validation.specs.Slices.{Lent}
+use Rattle.exposure.specs.Scenario.{eulBy}
+use Rattle.exposure.specs.Member.{MemberEul}
+use Rattle.exposure.specs.Rows.{rowOf, ScenarioRow}
+use Rattle.exposure.proofs.Tables.{zero-at, Filled, filled-none, filled-more, is-row, set-within}
+
+pub record RowPass (k : ℕ) (kinds : List ℕ) (npvs : List ℤ) (margins extras : List ℕ) (row : List ℤ) (j : ℕ) : Type 0 where
+  pub high : j ≤ k
+  pub long : length row ≡ 16
+  pub bound : (x : ℕ) → natAbs (getD row x (pos 0)) ≤ 3 * limit * length kinds
+  pub is : (accts : List Account) → Lent k kinds npvs margins extras accts → Filled (λ x. memberEul (eulUnder (suc x)) accts) (replicate 16 (pos 0)) row j
+
+under : (k j : ℕ) → eulBy k (suc j) ≡ eulUnder (suc j)
+unfolding eulBy
+under k j = fun-ext (λ a. rw (ne-eqb (suc j) 0 (λ e. omega arith)))
+
+module _ {k : ℕ} {kinds : List ℕ} {npvs : List ℤ} {margins extras : List ℕ} where
+  pub row-none : RowPass k kinds npvs margins extras (replicate 16 (pos 0)) 0
+  row-none =
+      record {
+        high = omega arith;
+        long = length-replicate 16 (pos 0);
+        bound = λ x. rw (zero-at 16 x) (omega arith);
+        is = λ accts l. filled-none _ (replicate 16 (pos 0)) (length-replicate 16 (pos 0));
+      }
+
+  pub row-more : {row : List ℤ} {j : ℕ} (e : ℤ) → k ≤ 16 → j < k → mag e < 2 ^ 63 → MemberEul k (j + 1) kinds npvs margins extras e → RowPass k kinds npvs margins extras row j
+      → RowPass k kinds npvs margins extras (set row j (toZ w64 (ofZ w64 e))) (j + 1)
+  row-more {row} {j} e few h ok m p =
+      let v : toZ w64 (ofZ w64 e) ≡ e = back-ok w64 e ok in
+      record {
+        high = omega arith;
+        long = length-set row j (toZ w64 (ofZ w64 e)) ∙ p .long;
+        bound = set-within row j (3 * limit * length kinds) (toZ w64 (ofZ w64 e)) (omega (arith, p .long)) (rw v (m .bound)) (p .bound);
+        is =
+            λ accts l.
+            filled-more _ (replicate 16 (pos 0)) (omega arith)
+            (v ∙ m .is accts l ∙ ap (λ (n : ℕ). memberEul (eulBy k n) accts) (add-one j) ∙ ap (λ (f : Account → ℤ). memberEul f accts) (under k j))
+            (p .is accts l);
+      }
+
+  pub row-all : {row : List ℤ} {j : ℕ} → k ≤ j → RowPass k kinds npvs margins extras row j → ScenarioRow k kinds npvs margins extras row
+  row-all {row} {j} h p =
+      let e : j ≡ k = omega (arith, p .high) in
+      record { is = λ accts l. is-row k (λ n. memberEul (eulUnder n) accts) (rw e at (p .is accts l)); long = p .long; bound = p .bound }

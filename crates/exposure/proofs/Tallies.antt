@@ -1,0 +1,171 @@
+-- One account more: what each kind does to the tally, and to the member's EUL over whatever follows. Only one part of it moves.
+use mathlib.Core.Path.{_≡_, refl, sym, ap, subst, _∙_}
+use mathlib.Core.Bool.{Bool, true, false, _||_}
+use mathlib.Core.List.{List, [], _∷_, map}
+use Prim.Native.Nat.{ℕ, _+_, _*_, _/_, _≤_, _<_, _^_, max}
+use native.Mathlib.Decide.{ℕ-discrete}
+use native.Mathlib.Nat.{add-assoc}
+use native.Mathlib.Omega.{arith}
+use lib.Dec.{leb, eqb}
+use lib.IntN.{ℤ, pos, natAbs, _+ℤ_, +ℤ-assoc, +ℤ-idr}
+use lib.ListN.{take}
+use borrow.Author.Tests.{leb-true, leb-false, ne-eqb}
+use mir.Syntax.{w64}
+use mir.Val.{SFits}
+use Rattle.numbers.specs.Signed.{_⁺}
+use Rattle.numbers.specs.Lists.{keep, descending}
+use Rattle.numbers.specs.Sums.{Σ, Σℤ, greatest}
+use Rattle.numbers.specs.Rounding.{ceilDiv}
+use Rattle.numbers.proofs.Signed.{signed, add, abs-is, abs-add, one-zero, fits-abs}
+use Rattle.numbers.proofs.Sorting.{two-largest}
+use Rattle.methodology.specs.Account.{Account, kindH, kindR, kindA, kindU}
+use Rattle.methodology.specs.Member.{isHouse, isClient, isR, isAorU, houseEul, twoLargestOfR, partC}
+use Rattle.methodology.specs.Refusals.{limit}
+use Rattle.exposure.specs.declared.member.Tally.{Tally}
+use Rattle.exposure.specs.Tally.{largestOfR, eulOver, Held, Small, Counted, Ended}
+
+-- ranges
+pub house-fits : {t : Tally} → Small t → SFits w64 (t .house)
+house-fits {t} s = fits-abs (t .house) (omega arith)
+
+pub gain-le : (e : ℤ) → natAbs e ≤ 2 * limit → e ⁺ ≤ 2 * limit
+gain-le e h = omega (arith, abs-is e)
+
+-- the two largest of kind R, with g in its place
+top : (f s g l w : ℕ) → s ≤ f → f < g → max (g + f) (max (g + l) w) ≡ max (f + s) (max (f + max g l) (max (g + l) w))
+top f s g l w h k = omega arith
+
+middle : (f s g l w : ℕ) → s ≤ g → g ≤ f → max (f + g) (max (f + l) w) ≡ max (f + s) (max (f + max g l) (max (g + l) w))
+middle f s g l w h k = omega arith
+
+low : (f s g l w : ℕ) → s ≤ f → g ≤ s → max (f + s) (max (f + l) w) ≡ max (f + s) (max (f + max g l) (max (g + l) w))
+low f s g l w h k = omega arith
+
+below : (f s g l w : ℕ) → s ≤ f → g ≤ f → max (f + max s g) (max (f + l) w) ≡ max (f + s) (max (f + max g l) (max (g + l) w))
+below f s g l w h k = by (leb s g) refl
+  where
+    by : (t : Bool) → leb s g ≡ t → max (f + max s g) (max (f + l) w) ≡ max (f + s) (max (f + max g l) (max (g + l) w))
+    by true e =
+        let le = leb-true s g e in
+        let m : max s g ≡ g = omega arith in
+        rw m (middle f s g l w le k)
+    by false e =
+        let lt = leb-false s g e in
+        let m : max s g ≡ s = omega arith in
+        rw m (low f s g l w h (omega arith))
+
+-- an account that passes a test is kept, and another is not
+kept : (test : Account → Bool) (a : Account) (rest : List Account) → test a ≡ true → keep test (a ∷ rest) ≡ a ∷ keep test rest
+unfolding keep
+kept test a rest h = rw h
+
+left : (test : Account → Bool) (a : Account) (rest : List Account) → test a ≡ false → keep test (a ∷ rest) ≡ keep test rest
+unfolding keep
+left test a rest h = rw h
+
+module _ (t : Tally) (e : ℤ) (s : Small t) (b : natAbs e ≤ 2 * limit) where
+  pub sum-fits : SFits w64 (t .house +ℤ e)
+  sum-fits = fits-abs (t .house +ℤ e) (omega (arith, abs-add (t .house) e))
+
+  -- kind H
+  abbrev with-house : Tally
+  with-house = record { house = t .house +ℤ e; clients = t .clients; first = t .first; second = t .second; others = t .others }
+
+  over-house : (eul : Account → ℤ) (a : Account) (rest : List Account) → a .heading .kind ≡ kindH → eul a ≡ e → eulOver with-house eul rest ≡ eulOver t eul (a ∷ rest)
+  unfolding eulOver houseEul twoLargestOfR largestOfR partC Σℤ
+  over-house eul a rest q r =
+      rw (kept isHouse a rest (rw q), left isClient a rest (rw q), left isR a rest (rw q), left isAorU a rest (rw q))
+      (cc (r, +ℤ-assoc (t .house) e (Σℤ (keep isHouse rest) eul)))
+
+  pub house : Counted t kindH e with-house
+  house =
+      record {
+        held = λ n h. record { all = omega (arith, h .all, abs-add (t .house) e); apart = h .apart; order = h .order };
+        over = over-house;
+      }
+
+  -- kinds A and U
+  abbrev with-other : Tally
+  with-other = record { house = t .house; clients = t .clients + e ⁺; first = t .first; second = t .second; others = t .others + e ⁺ }
+
+  over-other : (eul : Account → ℤ) (a : Account) (rest : List Account) → isHouse a ≡ false → isR a ≡ false → isAorU a ≡ true → eul a ≡ e → eulOver with-other eul rest ≡ eulOver t eul (a ∷ rest)
+  unfolding eulOver houseEul twoLargestOfR largestOfR partC Σ
+  over-other eul a rest h₀ h₁ h₂ r =
+      rw (left isHouse a rest h₀, kept isClient a rest (rw (h₁, h₂)), left isR a rest h₁, kept isAorU a rest h₂, r)
+      (cc (add-assoc (t .clients) (e ⁺) (Σ (keep isClient rest) (λ x. eul x ⁺)), add-assoc (t .others) (e ⁺) (Σ (keep isAorU rest) (λ x. eul x ⁺))))
+
+  two-or-three : (k : ℕ) → k ≤ kindU → (k ≡ kindH → ⊥) → (k ≡ kindR → ⊥) → Dec (k ≡ kindA) → (eqb k kindA || eqb k kindU) ≡ true
+  two-or-three k h h₀ h₁ (yes p) = rw p
+  two-or-three k h h₀ h₁ (no n) = let p : k ≡ kindU = omega arith in rw p
+
+  pub other : (k : ℕ) → k ≤ kindU → (k ≡ kindH → ⊥) → (k ≡ kindR → ⊥) → Counted t k e with-other
+  other k h h₀ h₁ =
+      record {
+        held = λ n g. record { all = omega (arith, g .all, gain-le e b); apart = omega (arith, g .apart); order = g .order };
+        over =
+            λ eul a rest q r.
+            over-other eul a rest
+            (rw q (ne-eqb k kindH h₀))
+            (rw q (ne-eqb k kindR h₁))
+            (rw q (two-or-three k h h₀ h₁ (ℕ-discrete k kindA)))
+            r;
+      }
+
+  -- kind R, by where its EUL stands
+  abbrev ranked : (first second : ℕ) → Tally
+  ranked f g = record { house = t .house; clients = t .clients + e ⁺; first = f; second = g; others = t .others }
+
+  over-R :
+      (f g : ℕ) → ((l w : ℕ) → max (f + g) (max (f + l) w) ≡ max (t .first + t .second) (max (t .first + max (e ⁺) l) (max (e ⁺ + l) w)))
+      → (eul : Account → ℤ) (a : Account) (rest : List Account) → a .heading .kind ≡ kindR → eul a ≡ e → eulOver (ranked f g) eul rest ≡ eulOver t eul (a ∷ rest)
+  unfolding eulOver houseEul twoLargestOfR largestOfR partC Σ greatest
+  over-R f g h eul a rest q r =
+      let rs = map (λ (x : Account). eul x ⁺) (keep isR rest) in
+      rw (left isHouse a rest (rw q), kept isClient a rest (rw q), kept isR a rest (rw q), left isAorU a rest (rw q), r, two-largest (e ⁺) rs)
+      (cc (add-assoc (t .clients) (e ⁺) (Σ (keep isClient rest) (λ x. eul x ⁺)), h (greatest rs (λ x. x)) (Σ (take 2 (descending rs)) (λ x. x))))
+
+  pub first : t .first < e ⁺ → Counted t kindR e (ranked (e ⁺) (t .first))
+  first h =
+      record {
+        held = λ n g. record { all = omega (arith, g .all, gain-le e b); apart = omega (arith, g .apart, g .order); order = omega arith };
+        over = over-R (e ⁺) (t .first) (λ l w. top (t .first) (t .second) (e ⁺) l w (s .order) h);
+      }
+
+  pub second : e ⁺ ≤ t .first → Counted t kindR e (ranked (t .first) (max (t .second) (e ⁺)))
+  second h =
+      record {
+        held = λ n g. record { all = omega (arith, g .all, gain-le e b); apart = omega (arith, g .apart); order = omega (arith, g .order) };
+        over = over-R (t .first) (max (t .second) (e ⁺)) (λ l w. below (t .first) (t .second) (e ⁺) l w (s .order) h);
+      }
+
+-- another name for the kind
+pub at-kind : {t r : Tally} {e : ℤ} {k m : ℕ} → k ≡ m → Counted t m e r → Counted t k e r
+at-kind {t} {r} {e} h c = subst (λ (n : ℕ). Counted t n e r) (sym h) c
+
+-- no account is left: the EUL as the program adds it up, and its bound
+module _ (t : Tally) where
+  abbrev pub rest : ℕ
+  rest = max ((t .clients + 1) / 2) (t .first + t .second) + t .others
+
+  clients-part : (c f s o : ℕ) → (f + s + o ≤ c) → max ((c + 1) / 2) (f + s) + o ≤ c + (c + 1) / 2
+  clients-part c f s o h = omega arith
+
+  bounded : (n : ℕ) → Held t n → natAbs (t .house +ℤ pos rest) ≤ 3 * limit * n
+  bounded n h = omega (arith, h .all, clients-part (t .clients) (t .first) (t .second) (t .others) (h .apart), abs-add (t .house) (pos rest))
+
+  pub total-fits : Small t → SFits w64 (t .house +ℤ pos rest)
+  total-fits s = fits-abs (t .house +ℤ pos rest) (omega (arith, bounded 256 s))
+
+  none-left : (c f s o : ℕ) → max ((c + 1) / 2) (f + s) + o ≡ max ((c + 0 + 1) / 2) (max (f + s) (max (f + 0) 0)) + (o + 0)
+  none-left c f s o = omega arith
+
+  is : (eul : Account → ℤ) → t .house +ℤ pos rest ≡ eulOver t eul []
+  unfolding eulOver houseEul twoLargestOfR largestOfR partC keep Σ Σℤ greatest descending ceilDiv
+  is eul =
+      let b : ℕ = max ((t .clients + 0 + 1) / 2) (max (t .first + t .second) (max (t .first + 0) 0)) in
+      ap (λ (n : ℕ). t .house +ℤ pos n) (none-left (t .clients) (t .first) (t .second) (t .others))
+      ∙ sym (+ℤ-assoc (t .house) (pos b) (pos (t .others + 0)))
+      ∙ ap (λ (z : ℤ). z +ℤ pos b +ℤ pos (t .others + 0)) (sym (+ℤ-idr (t .house)))
+
+  pub ended : Ended t (t .house +ℤ pos rest)
+  ended = record { is = is; bound = bounded }

@@ -1,0 +1,46 @@
+-- What the program finds of a day, for any accounts that its slices hold.
+use mathlib.Core.Path.{_≡_}
+use mathlib.Core.List.{List, map}
+use Prim.Native.Nat.{ℕ, _-_, _*_, _≤_, _<_}
+use lib.IntN.{ℤ, pos, natAbs}
+use lib.ListN.{length, getD, take, drop}
+use Rattle.numbers.specs.Signed.{_⁺}
+use Rattle.numbers.specs.Sums.{Σ}
+use Rattle.methodology.specs.Account.{Opening, Account, members, eulUnder, ownEul}
+use Rattle.methodology.specs.Member.{memberEul, loss}
+use Rattle.methodology.specs.Day.{maxEul}
+use Rattle.methodology.specs.Refusals.{limit}
+use Rattle.validation.specs.Slices.{Lent, Within, Rising}
+use Rattle.exposure.specs.declared.day.Losses.{Losses}
+use Rattle.exposure.specs.Cut.{Owners}
+use Rattle.exposure.specs.Rows.{rowOf}
+
+-- slices of a day of a period with n members and k scenarios, as rows 1 and 4 to 6 of the refusal table leave them
+pub record Sizable (n k : ℕ) (holders kinds : List ℕ) (npvs : List ℤ) (margins extras : List ℕ) : Type 0 where
+  pub within : Within k kinds npvs margins extras
+  pub rising : Rising holders
+  pub same : length holders ≡ length kinds
+  pub members-few : n ≤ 32
+  pub scenarios-few : k ≤ 16
+
+-- the accounts from index a to index b - 1: a member's loss
+pub record LossIs (k : ℕ) (kinds : List ℕ) (npvs : List ℤ) (margins extras : List ℕ) (a b : ℕ) (r : ℕ) : Type 0 where
+  pub is : (accts : List Account) → Lent k kinds npvs margins extras accts → r ≡ memberEul (ownEul k) (take (b - a) (drop a accts)) ⁺
+  pub bound : r ≤ 3 * limit * (b - a)
+
+-- and its EULs by scenario
+pub record RowIs (k : ℕ) (kinds : List ℕ) (npvs : List ℤ) (margins extras : List ℕ) (a b : ℕ) (r : List ℤ) : Type 0 where
+  pub is : (accts : List Account) → Lent k kinds npvs margins extras accts → r ≡ rowOf k (λ j. memberEul (eulUnder j) (take (b - a) (drop a accts)))
+  pub long : length r ≡ 16
+  pub bound : (x : ℕ) → natAbs (getD r x (pos 0)) ≤ 3 * limit * (b - a)
+
+-- each member's loss, and T
+pub record LossesAre (n k : ℕ) (holders kinds : List ℕ) (npvs : List ℤ) (margins extras : List ℕ) (r : Losses) : Type 0 where
+  pub each : (accts : List Account) → Lent k kinds npvs margins extras accts → Owners holders accts → take n (r .each) ≡ map (loss k accts) (members n)
+  pub total : (accts : List Account) → Lent k kinds npvs margins extras accts → Owners holders accts → r .total ≡ Σ (members n) (loss k accts)
+
+-- Max EUL
+pub record MaxIs (k : ℕ) (groups holders kinds : List ℕ) (npvs : List ℤ) (margins extras : List ℕ) (r : ℕ) : Type 0 where
+  pub is :
+      (accts : List Account) → Lent k kinds npvs margins extras accts → Owners holders accts
+      → r ≡ maxEul (record { n = length groups; k = k; groups = groups }) accts

@@ -1,0 +1,8 @@
+pub mod Ranges
+pub mod Scenario
+pub mod Tally
+pub mod Member
+pub mod Rows
+pub mod Cut
+pub mod Groups
+pub mod Day

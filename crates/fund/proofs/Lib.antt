@@ -1,0 +1,4 @@
+mod More
+mod Stretches
+pub mod Dailies
+pub mod Contributions

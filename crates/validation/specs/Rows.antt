@@ -1,0 +1,23 @@
+-- What rows 4 to 6 of the refusal table leave of a day, in facts instead of tests.
+use mathlib.Core.Path.{_≡_}
+use mathlib.Core.List.{List}
+use Prim.Native.Nat.{ℕ, _+_, _*_, _≤_, _<_}
+use lib.IntN.{ℤ}
+use lib.ListN.{length, getD}
+use Rattle.methodology.specs.Account.{Opening, DayInput}
+use Rattle.validation.specs.Slices.{Within, Rising}
+
+-- row 4: lengths that agree
+pub record Sized (o : Opening) (d : DayInput) (room : ℕ) : Type 0 where
+  pub some : 1 ≤ length (d .headings)
+  pub few : length (d .headings) ≤ 256
+  pub npvs-long : length (d .npvs) ≡ length (d .headings) * (o .k + 1)
+  pub margins-long : length (d .margins) ≡ length (d .headings)
+  pub extras-long : length (d .extras) ≡ length (d .headings)
+  pub room-long : room ≡ 5 * o .n
+
+-- rows 4 to 6, of a day in plain slices
+pub record Passed (o : Opening) (members kinds : List ℕ) (npvs : List ℤ) (margins extras : List ℕ) : Type 0 where
+  pub within : Within (o .k) kinds npvs margins extras
+  pub rising : Rising members
+  pub most : (i : ℕ) → i < length members → getD members i 0 ≤ o .n
