@@ -1,0 +1,55 @@
+-- `sums_within` meets its contract: every sum passed is at most `most`.
+use borrow.Author.Count.{below-more}
+use borrow.Author.Needs.{needs}
+use mathlib.Core.Bool.{true≢false}
+use mathlib.Core.Path.{sym}
+use Prim.Native.Nat.{ℕ, _-_, _≤_, _<_}
+use native.Mathlib.Omega.{arith}
+use lib.ListN.{getD}
+use Rattle.figures.proofs.sums_within.Statement.{statement}
+use Rattle.figures.proofs.sums_within.Tie as tie
+
+abbrev Inv-loop : tie.InvT-loop
+Inv-loop n most sums i₀ i = (i ≤ n) × ((j : ℕ) → j < i → getD sums j 0 ≤ most)
+
+abbrev μ-loop : tie.MeasureT-loop
+μ-loop n most sums i₀ i = n - i
+
+loop-holds : tie.Need-loop-holds Inv-loop μ-loop
+loop-holds c = search needs
+
+mul-if1 : tie.Need-mul-if1 Inv-loop μ-loop
+mul-if1 c = search needs
+
+array-read-if1 : tie.Need-array-read-if1 Inv-loop μ-loop
+array-read-if1 c = search needs
+
+returns : tie.Need-returns Inv-loop μ-loop
+returns c = λ e. absurd (true≢false (sym e))
+
+add-i : tie.Need-add-i Inv-loop μ-loop
+add-i c = search needs
+
+loop-less : tie.Need-loop-less Inv-loop μ-loop
+loop-less c = search needs
+
+loop-again : tie.Need-loop-again Inv-loop μ-loop
+loop-again c = (search needs, below-more _ _ (c .before .before .loop .inv .1) (omega arith))
+
+returns-2 : tie.Need-returns-2 Inv-loop μ-loop
+returns-2 c = λ e j h. c .before .loop .inv .1 j (omega arith)
+
+pub sums-within-spec : {M : Type 1} → statement M
+sums-within-spec =
+    tie.close
+    (tie.spec
+    Inv-loop
+    μ-loop
+    loop-holds
+    mul-if1
+    array-read-if1
+    returns
+    add-i
+    loop-less
+    loop-again
+    returns-2)
