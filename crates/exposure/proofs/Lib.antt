@@ -13,3 +13,4 @@ pub mod MaxTotal
 mod Between
 mod LossPass
 mod MaxPass
+pub mod Admitted

@@ -1,5 +1,6 @@
 mod More
 pub mod Headings
 pub mod Amounts
+pub mod Opening
 pub mod Day
 pub mod Parts

@@ -1,4 +1,4 @@
--- What rows 4 to 6 of the refusal table leave of a day, in facts instead of tests.
+-- What the refusal table leaves of an opening and of a day, in facts instead of tests.
 use mathlib.Core.Path.{_≡_}
 use mathlib.Core.List.{List}
 use Prim.Native.Nat.{ℕ, _+_, _*_, _≤_, _<_}
@@ -6,6 +6,15 @@ use lib.IntN.{ℤ}
 use lib.ListN.{length, getD}
 use Rattle.methodology.specs.Account.{Opening, DayInput}
 use Rattle.validation.specs.Slices.{Within, Rising}
+
+-- row 1: an opening within its limits
+pub record Opened (o : Opening) : Type 0 where
+  pub members-some : 1 ≤ o .n
+  pub members-few : o .n ≤ 32
+  pub scenarios-some : 1 ≤ o .k
+  pub scenarios-few : o .k ≤ 16
+  pub groups-long : length (o .groups) ≡ o .n
+  pub group-few : (i : ℕ) → i < o .n → getD (o .groups) i 0 ≤ 32
 
 -- row 4: lengths that agree
 pub record Sized (o : Opening) (d : DayInput) (room : ℕ) : Type 0 where

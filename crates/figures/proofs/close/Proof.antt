@@ -5,7 +5,6 @@ use native.Mathlib.Omega.{arith}
 use Rattle.figures.proofs.close.Statement.{statement}
 use Rattle.figures.proofs.close.Tie as tie
 
-
 returns : tie.Need-returns
 returns c = search needs
 
@@ -34,7 +33,7 @@ returns-6 : tie.Need-returns-6
 returns-6 c = search needs
 
 write-contributions-requires : tie.Need-write-contributions-requires
-write-contributions-requires c κs = 
+write-contributions-requires c κs =
     ((search needs, omega (arith, c .before .before .before .if5 .left)), λ i h. record { bounded = search needs; positive = search needs; month = search needs; shares = c .before .before .sums-within .ensures (not-false _ (c .before .if6 .left)) i h })
 
 put-rows-requires : tie.Need-put-rows-requires
