@@ -1,22 +1,20 @@
 -- The accounts from index a to index b - 1: their parts of the slices lie within the limits, and what is found of them is found of the part.
-use mathlib.Core.Path.{_≡_, refl, sym, ap, _∙_}
+use mathlib.Core.Path.{_≡_, ap, _∙_}
 use mathlib.Core.List.{List}
-use Prim.Native.Nat.{ℕ, _+_, _-_, _*_, _≤_, _<_}
+use Prim.Native.Nat.{ℕ, _+_, _-_, _*_, _≤_}
 use native.Mathlib.Nat.{mul-le-mul-right}
 use native.Mathlib.Omega.{arith}
-use lib.IntN.{ℤ, pos, natAbs}
-use lib.ListN.{length, getD, take, drop}
+use lib.IntN.{ℤ}
+use lib.ListN.{length, take, drop}
 use Rattle.numbers.specs.Signed.{_⁺}
 use Rattle.numbers.proofs.Signed.{abs-is}
 use Rattle.numbers.proofs.Lists.{part-length}
-use Rattle.methodology.specs.Account.{Account, eulUnder, ownEul}
-use Rattle.methodology.specs.Member.{memberEul}
-use Rattle.methodology.specs.Refusals.{limit}
+use Rattle.methodology.specs.Account.{Account}
 use Rattle.validation.specs.Slices.{Lent, Within}
 use Rattle.validation.proofs.Parts.{within-part, lent-part}
 use Rattle.exposure.specs.Scenario.{eulBy}
 use Rattle.exposure.specs.Member.{MemberEul}
-use Rattle.exposure.specs.Rows.{rowOf, ScenarioRow}
+use Rattle.exposure.specs.Rows.{ScenarioRow}
 use Rattle.exposure.specs.Day.{LossIs, RowIs}
 
 module _ {k a b : ℕ} {kinds : List ℕ} {npvs : List ℤ} {margins extras : List ℕ} (w : Within k kinds npvs margins extras) (h : a ≤ b) (l : b ≤ length kinds) where

@@ -1,21 +1,21 @@
 -- How large the figures of a day get. A member's EUL counts an account at most one and a half times, an account's EUL is within twice the
 -- limit of its amounts, and an account is one member's only.
-use mathlib.Core.Path.{_≡_, sym, _∙_}
-use mathlib.Core.Bool.{Bool, false, _||_, or-false}
+use mathlib.Core.Path.{_≡_}
+use mathlib.Core.Bool.{Bool, false}
 use mathlib.Core.List.{List, map}
-use mathlib.Mathlib.Data.Bool.Basic.{or-eq-false-eq-eq-false-and-eq-false}
 use Prim.Native.Nat.{ℕ, _+_, _*_, _≤_, _<_}
 use native.Mathlib.Omega.{arith}
 use lib.Dec.{ltb, eqb}
-use lib.IntN.{ℤ, pos, negsuc, natAbs, _+ℤ_, _-ℤ_}
+use lib.IntN.{ℤ, pos, natAbs, _+ℤ_, _-ℤ_}
 use lib.ListN.{length, getD, length-take}
 use borrow.Author.Tests.{ltb-false}
 use Rattle.numbers.specs.Signed.{_⁺}
 use Rattle.numbers.specs.Lists.{range, keep, descending}
 use Rattle.numbers.specs.Sums.{Σ}
-use Rattle.numbers.proofs.Signed.{abs-is, abs-add, add, sub, one-zero}
-use Rattle.numbers.proofs.Lists.{_∈_, mem-at, by-index, part-at, mem-keep, any-false}
-use Rattle.numbers.proofs.Sums.{Σ-mono, Σ-bound, Σ-const, Σ-map, Σ-perm, Σ-keep-le, Σℤ-abs, greatest-le}
+use Rattle.numbers.proofs.Tests.{neither}
+use Rattle.numbers.proofs.Signed.{abs-is, abs-add, add, sub, one-zero, ⁺-abs, ⁺-sub}
+use Rattle.numbers.proofs.Lists.{_∈_, mem-at, by-index, at-any, part-at, mem-keep, any-false}
+use Rattle.numbers.proofs.Sums.{Σ-mono, Σ-bound, Σ-const, Σ-map, Σ-perm, Σ-keep-le, Σ-take-le, Σ-or, Σ-classes, Σℤ-abs, greatest-le}
 use Rattle.numbers.proofs.Sorting.{descending-is}
 use Rattle.numbers.proofs.Rounding.{ceil-below}
 use Rattle.methodology.specs.Account.{Opening, Account, members, base, stress, decrease, eulOf, eulUnder, largestDecrease, ownEul}
@@ -23,13 +23,10 @@ use Rattle.methodology.specs.Member.{accountsOf, isHouse, isR, isAorU, isClient
 use Rattle.methodology.specs.Day.{groupNumber, total}
 use Rattle.methodology.specs.Refusals.{limit, badAmount, npvOutside}
 use Rattle.validation.specs.Slices.{Amounts, Within, none}
+use Rattle.validation.proofs.Amounts.{npv-limit}
 use Rattle.exposure.specs.Groups.{rowUpto}
-use Rattle.exposure.proofs.More.{at-any, Σ-or, Σ-classes, Σ-take-le}
 
 -- a member's EUL: the house counts whole, R at most whole, A and U one and a half times
-⁺-abs : (z : ℤ) → z ⁺ ≤ natAbs z
-⁺-abs z = omega (arith, abs-is z)
-
 module _ (f : Account → ℤ) (accts : List Account) where
   abbrev size : (Account → Bool) → ℕ
   size t = Σ (keep t accts) (λ a. natAbs (f a))
@@ -91,20 +88,13 @@ pub record Limited (most : ℕ) (a : Account) : Type 0 where
   pub extra : a .extra ≤ a .margin
 
 -- what row 6 leaves
-npv-inside : (z : ℤ) → npvOutside z ≡ false → natAbs z ≤ limit
-npv-inside (pos n) e = ltb-false limit n e
-npv-inside (negsuc n) e = omega (arith, ltb-false _ n (sym (or-false _) ∙ e))
-
-neither : (s t : Bool) → (s || t) ≡ false → (s ≡ false) × (t ≡ false)
-neither s t = or-eq-false-eq-eq-false-and-eq-false s t .0
-
 pub limited : (a : Account) → badAmount a ≡ false → Limited limit a
 unfolding badAmount
 limited a e =
     let (h, x) = neither _ _ e in
     let (n, m) = neither _ _ h in
     record {
-      npv = λ i k. npv-inside (getD (a .npvs) i (pos 0)) (any-false npvOutside n (mem-at (a .npvs) (pos 0) k));
+      npv = λ i k. npv-limit (getD (a .npvs) i (pos 0)) (any-false npvOutside n (mem-at (a .npvs) (pos 0) k));
       margin = ltb-false limit (a .margin) (neither (ltb (a .margin) 0) _ m .1);
       extra = ltb-false (a .margin) (a .extra) x;
     }
@@ -127,6 +117,13 @@ lent-limited {k} {kinds} {npvs} {margins} {extras} {accts} s w = by-index (Limit
         }
 
 -- so its EULs are within twice the limit
+pub eul-abs : {most fall margin extra : ℕ} → fall ≤ 2 * most → margin ≤ most → extra ≤ margin → natAbs (eulOf fall margin extra) ≤ 2 * most
+unfolding eulOf
+eul-abs {most} {fall} {margin} {extra} h k l =
+    let less = pos fall -ℤ pos margin in
+    let more = less +ℤ pos extra in
+    omega (arith, sub (pos fall) (pos margin), add less (pos extra), one-zero more, abs-is more)
+
 module _ {most : ℕ} {a : Account} (l : Limited most a) where
   decrease-le : (j : ℕ) → decrease (a .npvs) j ≤ 2 * most
   unfolding decrease
@@ -134,22 +131,15 @@ module _ {most : ℕ} {a : Account} (l : Limited most a) where
       let at = at-any (λ z. natAbs z ≤ most) (a .npvs) (pos 0) (omega arith) (l .npv) in
       let b = base (a .npvs) in
       let s = stress (a .npvs) j in
-      omega (arith, at 0, at j, abs-is b, abs-is s, sub b s, one-zero (b -ℤ s))
-
-  eul-le : (fall : ℕ) → fall ≤ 2 * most → natAbs (eulOf fall (a .margin) (a .extra)) ≤ 2 * most
-  unfolding eulOf
-  eul-le fall h =
-      let less = pos fall -ℤ pos (a .margin) in
-      let more = less +ℤ pos (a .extra) in
-      omega (arith, l .margin, l .extra, sub (pos fall) (pos (a .margin)), add less (pos (a .extra)), one-zero more, abs-is more)
+      omega (arith, at 0, at j, ⁺-sub b s)
 
   pub under-abs : (j : ℕ) → natAbs (eulUnder j a) ≤ 2 * most
   unfolding eulUnder
-  under-abs j = eul-le (decrease (a .npvs) j) (decrease-le j)
+  under-abs j = eul-abs (decrease-le j) (l .margin) (l .extra)
 
   pub own-abs : (k : ℕ) → natAbs (ownEul k a) ≤ 2 * most
   unfolding ownEul largestDecrease
-  own-abs k = eul-le (largestDecrease k (a .npvs)) (greatest-le (range 1 k) _ _ (λ j m. decrease-le j))
+  own-abs k = eul-abs (greatest-le (range 1 k) _ _ (λ j m. decrease-le j)) (l .margin) (l .extra)
 
 -- the figures of a day whose accounts are all within a limit
 module _ (most : ℕ) (accts : List Account) (l : (a : Account) → a ∈ accts → Limited most a) where

@@ -11,13 +11,12 @@ use borrow.Author.Tests.{eqb-true, eqb-false, eq-eqb, ne-eqb}
 use Rattle.numbers.specs.Signed.{_⁺}
 use Rattle.numbers.specs.Lists.{range, keep}
 use Rattle.numbers.specs.Sums.{Σℤ, greatest}
-use Rattle.numbers.proofs.Lists.{_∈_, range-mem, mem-range, mem-keep}
-use Rattle.numbers.proofs.Sums.{Σℤ-snoc, greatest-le, greatest-elem, greatest-eq}
+use Rattle.numbers.proofs.Lists.{_∈_, upto-more, range-mem, mem-range, keep-snoc, keep-snoc-skip, mem-keep}
+use Rattle.numbers.proofs.Sums.{Σℤ-snoc, greatest-le, greatest-elem}
 use Rattle.methodology.specs.Account.{Opening, Account, members, scenarios}
 use Rattle.methodology.specs.Member.{memberUnder}
 use Rattle.methodology.specs.Day.{groupNumber, groupOf, groupSum, maxEul}
 use Rattle.exposure.specs.Groups.{rowUpto, groupRow}
-use Rattle.exposure.proofs.More.{upto-more, keep-snoc, keep-skip}
 
 -- a row before the first member, and with member i + 1 added where it is in the group, or left out
 module _ (o : Opening) (accts : List Account) (g j : ℕ) where
@@ -31,7 +30,7 @@ module _ (o : Opening) (accts : List Account) (g j : ℕ) where
 
   pub row-out : (i : ℕ) → (groupNumber o (i + 1) ≡ g → ⊥) → rowUpto o accts (i + 1) g j ≡ rowUpto o accts i g j
   unfolding rowUpto
-  row-out i n = rw (upto-more i, keep-skip _ (range 1 i) (i + 1) (ne-eqb (groupNumber o (i + 1)) g n))
+  row-out i n = rw (upto-more i, keep-snoc-skip _ (range 1 i) (i + 1) (ne-eqb (groupNumber o (i + 1)) g n))
 
 -- the sum of a member's group: of itself alone, or a row
 module _ (o : Opening) (accts : List Account) (m j : ℕ) where

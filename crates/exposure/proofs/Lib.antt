@@ -1,9 +1,7 @@
 mod Decreases
 mod Tallies
 mod Pass
-pub mod More
 pub mod Members
-mod Greatest
 mod Tables
 mod ScenarioRows
 pub mod Groups

@@ -1,6 +1,6 @@
 -- The pass over the members that finds each one's loss and T. A member's accounts are the part between two cuts.
-use mathlib.Core.Path.{_≡_, refl, sym, ap, ap₂, _∙_}
-use mathlib.Core.List.{List, [], _∷_, _++_, map, map-append}
+use mathlib.Core.Path.{_≡_, refl, sym, ap₂, _∙_}
+use mathlib.Core.List.{List, map, map-append}
 use Prim.Native.Nat.{ℕ, _+_, _-_, _*_, _≤_, _<_}
 use native.Mathlib.Numerals.{add-one}
 use native.Mathlib.Omega.{arith}
@@ -9,15 +9,14 @@ use lib.ListN.{length, take, drop, set, length-set, replicate}
 use lib.Seq.{take-suc-set}
 use Rattle.numbers.specs.Lists.{range}
 use Rattle.numbers.specs.Sums.{Σ}
+use Rattle.numbers.proofs.Lists.{upto-more}
 use Rattle.numbers.proofs.Sums.{Σ-snoc}
 use Rattle.methodology.specs.Account.{Account}
 use Rattle.methodology.specs.Member.{loss}
 use Rattle.methodology.specs.Refusals.{limit}
 use Rattle.validation.specs.Slices.{Lent}
-use Rattle.exposure.specs.declared.day.Losses.{Losses}
 use Rattle.exposure.specs.Cut.{Owners, Cut}
 use Rattle.exposure.specs.Day.{Sizable, LossIs, LossesAre}
-use Rattle.exposure.proofs.More.{upto-more}
 use Rattle.exposure.proofs.Members.{cut-start, own-part, loss-of}
 
 pub record LossPass (n k : ℕ) (holders kinds : List ℕ) (npvs : List ℤ) (margins extras each : List ℕ) (total at i : ℕ) : Type 0 where

@@ -2,34 +2,29 @@
 -- one group's, number by number.
 use mathlib.Core.Path.{_≡_, refl, sym, ap, ap₂, _∙_, fun-ext}
 use mathlib.Core.Bool.{Bool, true, false, cond}
-use mathlib.Core.List.{List, [], _∷_, map}
+use mathlib.Core.List.{List, [], map}
 use Prim.Native.Nat.{ℕ, zero, suc, _+_, _-_, _*_, _≤_, _<_, _^_, max}
-use native.Mathlib.Nat.{zero-add}
 use native.Mathlib.Omega.{arith}
-use lib.Dec.{ltb, eqb}
-use lib.IntN.{ℤ, pos, natAbs, _+ℤ_}
+use lib.Dec.{ltb}
+use lib.IntN.{ℤ, pos, natAbs}
 use lib.ListN.{length, getD, take, drop, set, length-set, replicate, getD-replicate, length-replicate}
-use lib.Seq.{getD-set-same, getD-set-other}
-use borrow.Author.Tests.{eqb-true, eqb-false}
 use Rattle.numbers.specs.Signed.{_⁺}
 use Rattle.numbers.specs.Lists.{range}
 use Rattle.numbers.specs.Sums.{greatest}
-use Rattle.numbers.proofs.Signed.{abs-add}
-use Rattle.numbers.proofs.Lists.{mem-range, is-table, table-at, table-length, map-eq}
+use Rattle.numbers.proofs.Lists.{at-set, replicate-at, upto-more, mem-range, is-table, table-at, table-length, map-eq}
 use Rattle.numbers.proofs.Sums.{greatest-snoc, greatest-map, greatest-eq}
-use Rattle.methodology.specs.Account.{Opening, Account, members, scenarios}
+use Rattle.methodology.specs.Account.{Opening, Account, scenarios}
 use Rattle.methodology.specs.Member.{memberUnder}
-use Rattle.methodology.specs.Day.{groupNumber, maxEul}
+use Rattle.methodology.specs.Day.{groupNumber}
 use Rattle.methodology.specs.Refusals.{limit}
 use Rattle.validation.specs.Slices.{Lent}
 use Rattle.exposure.specs.Cut.{Owners, Cut}
-use Rattle.exposure.specs.Groups.{rowUpto, groupRow}
+use Rattle.exposure.specs.Groups.{rowUpto}
 use Rattle.exposure.specs.Rows.{rowOf, plus, Near, Shape, withRow}
 use Rattle.exposure.specs.Day.{Sizable, RowIs, MaxIs}
-use Rattle.exposure.proofs.More.{upto-more}
 use Rattle.exposure.proofs.Members.{cut-start, own-part, under-of}
 use Rattle.exposure.proofs.Groups.{row-none, row-in, row-out, max-by-rows}
-use Rattle.exposure.proofs.Tables.{zero-at, plus-row, plus-long, plus-bound, row-greatest}
+use Rattle.exposure.proofs.Tables.{plus-row, plus-long, plus-bound, row-greatest}
 
 -- the period that the group numbers are of
 abbrev pub opened : (k : ℕ) → (groups : List ℕ) → Opening
@@ -58,7 +53,7 @@ none-rows =
     record {
       tall = length-replicate 32 (replicate 16 (pos 0));
       wide = λ g h. rw (getD-replicate 32 g (replicate 16 (pos 0)) [] h) (length-replicate 16 (pos 0));
-      bound = λ g x h. rw (getD-replicate 32 g (replicate 16 (pos 0)) [] h, zero-at 16 x) (omega arith);
+      bound = λ g x h. rw (getD-replicate 32 g (replicate 16 (pos 0)) [] h, replicate-at 16 x (pos 0)) (omega arith);
     }
 
 -- a row joins its group's: the others stay, and none grows past the sum of the bounds
@@ -67,25 +62,16 @@ module _ {most : ℕ} {rows : List (List ℤ)} (row : List ℤ) (more : ℕ) (r 
   unfolding withRow
   with-rows zero h = record { tall = r .tall; wide = r .wide; bound = λ g x k. omega (arith, r .bound g x k) }
   with-rows (suc g₀) h =
+      let sum = plus (getD rows g₀ []) row in
+      let inside : g₀ < length rows = omega (arith, r .tall) in
       record {
-        tall = length-set rows g₀ (plus (getD rows g₀ []) row) ∙ r .tall;
-        wide = λ g k. wide-by g (eqb g g₀) refl k;
-        bound = λ g x k. bound-by g x (eqb g g₀) refl k;
+        tall = length-set rows g₀ sum ∙ r .tall;
+        wide = at-set (λ g z. g < 32 → length z ≡ 16) rows g₀ sum [] inside (λ k. plus-long (getD rows g₀ []) row) (λ g q. r .wide g);
+        bound =
+            at-set (λ g z. (x : ℕ) → g < 32 → natAbs (getD z x (pos 0)) ≤ most + more) rows g₀ sum [] inside
+            (λ x k. plus-bound (getD rows g₀ []) row (λ y. r .bound g₀ y k) b x)
+            (λ g q x k. omega (arith, r .bound g x k));
       }
-    where
-      wide-by : (g : ℕ) (t : Bool) → eqb g g₀ ≡ t → g < 32 → length (getD (set rows g₀ (plus (getD rows g₀ []) row)) g []) ≡ 16
-      wide-by g true q k =
-          let e = eqb-true g g₀ q in
-          rw (e, getD-set-same rows g₀ (plus (getD rows g₀ []) row) [] (omega (arith, r .tall))) (plus-long (getD rows g₀ []) row)
-      wide-by g false q k = rw (getD-set-other rows g₀ g (plus (getD rows g₀ []) row) [] (eqb-false g g₀ q)) (r .wide g k)
-
-      bound-by : (g x : ℕ) (t : Bool) → eqb g g₀ ≡ t → g < 32 → natAbs (getD (getD (set rows g₀ (plus (getD rows g₀ []) row)) g []) x (pos 0)) ≤ most + more
-      bound-by g x true q k =
-          let e = eqb-true g g₀ q in
-          rw (e, getD-set-same rows g₀ (plus (getD rows g₀ []) row) [] (omega (arith, r .tall)))
-          (plus-bound (getD rows g₀ []) row (λ y. r .bound g₀ y (omega arith)) b x)
-      bound-by g x false q k =
-          rw (getD-set-other rows g₀ g (plus (getD rows g₀ []) row) [] (eqb-false g g₀ q)) (omega (arith, r .bound g x k))
 
 -- the rows of all groups, when the first i members are passed
 abbrev rowsAt : (k : ℕ) → (groups : List ℕ) → List Account → (i : ℕ) → List (List ℤ)
@@ -118,29 +104,19 @@ module _ (k : ℕ) (groups : List ℕ) (accts : List Account) where
   rows-by i zero e l =
       map-eq _ _ (range 1 32) (λ g m. stays i g (λ q. let r = mem-range 1 32 m in omega arith))
   rows-by i (suc g₀) e l =
-      is-table next 1 32 [] (set (rowsAt k groups accts i) g₀ (plus (getD (rowsAt k groups accts i) g₀ []) (rowNext i)))
-      (length-set (rowsAt k groups accts i) g₀ (plus (getD (rowsAt k groups accts i) g₀ []) (rowNext i)) ∙ table-length now 1 32)
-      (λ x h. by x (eqb x g₀) refl h)
+      let rows = rowsAt k groups accts i in
+      let sum = plus (getD rows g₀ []) (rowNext i) in
+      let g : getD groups i 0 ≡ 1 + g₀ = omega arith in
+      is-table next 1 32 [] (set rows g₀ sum) (length-set rows g₀ sum ∙ table-length now 1 32)
+      (at-set (λ x r. x < 32 → r ≡ next (1 + x)) rows g₀ sum [] (omega (arith, table-length now 1 32))
+      (λ h. ap (λ (r : List ℤ). plus r (rowNext i)) (table-at now 1 32 g₀ [] h) ∙ joins i (1 + g₀) g)
+      (λ x n h. table-at now 1 32 x [] h ∙ stays i (1 + x) (λ z. n (omega arith))))
     where
       now : ℕ → List ℤ
       now g = rowOf k (rowUpto (opened k groups) accts i g)
 
       next : ℕ → List ℤ
       next g = rowOf k (rowUpto (opened k groups) accts (i + 1) g)
-
-      by : (x : ℕ) (t : Bool) → eqb x g₀ ≡ t → x < 32 → getD (set (rowsAt k groups accts i) g₀ (plus (getD (rowsAt k groups accts i) g₀ []) (rowNext i))) x [] ≡ next (1 + x)
-      by x true q h =
-          let same = eqb-true x g₀ q in
-          let h₀ : g₀ < 32 = omega arith in
-          let f : getD groups i 0 ≡ 1 + g₀ = omega arith in
-          rw same
-          (getD-set-same (rowsAt k groups accts i) g₀ (plus (getD (rowsAt k groups accts i) g₀ []) (rowNext i)) [] (omega (arith, table-length now 1 32))
-          ∙ ap (λ (r : List ℤ). plus r (rowNext i)) (table-at now 1 32 g₀ [] h₀)
-          ∙ joins i (1 + g₀) f)
-      by x false q h =
-          getD-set-other (rowsAt k groups accts i) g₀ x (plus (getD (rowsAt k groups accts i) g₀ []) (rowNext i)) [] (eqb-false x g₀ q)
-          ∙ table-at now 1 32 x [] h
-          ∙ stays i (1 + x) (λ z. eqb-false x g₀ q (omega arith))
 
   -- the greatest of all rows
   rows-greatest : k ≤ 16 → (i : ℕ) → greatest (rowsAt k groups accts i) (λ row. greatest row (λ z. z ⁺)) ≡ greatest (range 1 32) (λ g. greatest (scenarios k) (λ j. rowUpto (opened k groups) accts i g j ⁺))

@@ -1,30 +1,23 @@
 -- A member's accounts are a part of a day's: members rise, so those of m stand between two cuts, and its figures are those of the part.
 -- A loop keeps `Cut members m at`. An inner one finds the end of the part by `below-start` and `below-more`, and `cut-next` is the step.
-use mathlib.Core.Path.{_≡_, refl, sym, ap}
-use mathlib.Core.Bool.{Bool, true, false}
+use mathlib.Core.Path.{_≡_, sym, ap}
 use mathlib.Core.List.{List, map}
-use Prim.Native.Nat.{ℕ, zero, suc, _+_, _-_, _≤_, _<_}
+use Prim.Native.Nat.{ℕ, _+_, _-_, _≤_, _<_}
 use native.Mathlib.Omega.{arith}
-use native.Mathlib.Nat.{add-zero, add-suc}
 use lib.Dec.{eqb}
 use lib.ListN.{length, getD, take, drop, length-map}
-use lib.Arith.{lt-of-le-ne}
-use borrow.Author.Tests.{eqb-true, eqb-false, eq-eqb, ne-eqb}
+use borrow.Author.Count as count
+use borrow.Author.Tests.{eq-eqb, ne-eqb}
 use Rattle.numbers.specs.Signed.{_⁺}
-use Rattle.numbers.proofs.Lists.{map-at}
+use Rattle.numbers.proofs.Lists.{by-steps, map-at, keep-part}
 use Rattle.methodology.specs.Account.{Account, eulUnder, ownEul}
 use Rattle.methodology.specs.Member.{accountsOf, memberEul, memberUnder, memberOwn, loss}
 use Rattle.validation.specs.Slices.{Rising, none}
 use Rattle.exposure.specs.Cut.{Owners, Below, Cut}
-use Rattle.exposure.proofs.More.{keep-part}
 
 -- rising one by one is rising
 pub rising-le : {members : List ℕ} → Rising members → (i j : ℕ) → i ≤ j → j < length members → getD members i 0 ≤ getD members j 0
-rising-le {members} r i j h k = let e : i + (j - i) ≡ j = omega arith in rw e at (by (j - i) (omega arith))
-  where
-    by : (n : ℕ) → i + n < length members → getD members i 0 ≤ getD members (i + n) 0
-    by zero l = rw add-zero (omega arith)
-    by (suc n) l = rw add-suc (omega (arith, by n (omega arith), r .next (i + n) (omega arith)))
+rising-le {members} r i j h k = by-steps (λ n. getD members i 0 ≤ getD members n 0) i j h (omega arith) (λ n l m f. omega (arith, r .next n (omega arith)))
 
 -- every member is at least 1
 pub cut-start : {members : List ℕ} → Rising members → Cut members 1 0
@@ -35,11 +28,8 @@ pub below-start : {members : List ℕ} {m at : ℕ} → Cut members m at → Bel
 below-start c = record { within = c .below .within; before = λ i h. omega (arith, c .below .before i h) }
 
 pub below-more : {members : List ℕ} {m at : ℕ} → Below members (m + 1) at → at < length members → getD members at 0 ≡ m → Below members (m + 1) (at + 1)
-below-more {members} {m} {at} b h e = record { within = omega arith; before = λ i k. by i (eqb i at) refl k }
-  where
-    by : (i : ℕ) → (t : Bool) → eqb i at ≡ t → i < at + 1 → getD members i 0 < m + 1
-    by i true q k = rw (eqb-true i at q) (omega arith)
-    by i false q k = b .before i (lt-of-le-ne (omega arith) (eqb-false i at q))
+below-more {members} {m} {at} b h e =
+    record { within = omega arith; before = count.below-more (λ i. getD members i 0 < m + 1) at (b .before) (omega arith) }
 
 -- at the end no more of it follows: the next member's part begins
 pub cut-next : {members : List ℕ} {m at end : ℕ} → Rising members → Cut members m at → Below members (m + 1) end → at ≤ end

@@ -10,10 +10,10 @@ use Rattle.numbers.specs.Lists.{keep}
 use Rattle.numbers.proofs.Signed.{signed, add, sub, ⁺-mono}
 use Rattle.numbers.proofs.Lists.{_∈_, mem-keep}
 use Rattle.numbers.proofs.Sums.{Σ-mono, Σℤ-mono, greatest-elem}
+use Rattle.numbers.proofs.Sorting.{two-mono}
 use Rattle.numbers.proofs.Rounding.{ceil-mono}
 use Rattle.methodology.specs.Account.{Account, scenarios, decrease, eulOf, eulUnder, largestDecrease, ownEul}
 use Rattle.methodology.specs.Member.{accountsOf, isHouse, isR, isAorU, isClient, houseEul, halfOfClients, twoLargestOfR, partB, partC, memberEul, memberUnder, memberOwn, loss}
-use Rattle.exposure.proofs.More.{two-mono}
 
 -- a member's EUL: the house, the half, the two largest and part c each grow
 pub member-mono : (accts : List Account) (f g : Account → ℤ) → ((a : Account) → a ∈ accts → f a ≤ℤ g a) → memberEul f accts ≤ℤ memberEul g accts

@@ -1,13 +1,13 @@
 -- The pass over a member's accounts: what is counted and what is left make the member's EUL, for any accounts that the slices hold.
 use mathlib.Core.Path.{_≡_, refl, sym, ap, _∙_}
 use mathlib.Core.Bool.{Bool, true, false, cond}
-use mathlib.Core.List.{List, [], _∷_, map}
+use mathlib.Core.List.{List, map}
 use Prim.Native.Nat.{ℕ, _+_, _-_, _*_, _≤_, _<_, _^_, max}
 use native.Mathlib.Nat.{mul-le-mul-right}
 use native.Mathlib.Numerals.{add-one}
 use native.Mathlib.Omega.{arith}
 use lib.Dec.{eqb}
-use lib.IntN.{ℤ, pos, natAbs, _+ℤ_, _-ℤ_, +ℤ-idl}
+use lib.IntN.{ℤ, pos, natAbs, +ℤ-idl}
 use lib.Signed.{mag}
 use lib.ListN.{length, getD, take, drop, drop-of-length-le}
 use lib.Seq.{drop-cons}
@@ -17,28 +17,24 @@ use Rattle.numbers.specs.Signed.{_⁺}
 use Rattle.numbers.specs.Lists.{keep, descending}
 use Rattle.numbers.specs.Sums.{Σ, greatest}
 use Rattle.numbers.specs.Rounding.{ceilDiv}
-use Rattle.numbers.proofs.Signed.{signed, add, sub, abs-is, one-zero, back-ok}
+use Rattle.numbers.proofs.Signed.{back-ok}
 use Rattle.numbers.proofs.Lists.{part-length, part-at}
-use Rattle.numbers.proofs.Sorting.{two-largest}
+use Rattle.numbers.proofs.Sorting.{greatest-two}
 use Rattle.methodology.specs.Account.{Account, decrease, largestDecrease, eulOf, eulUnder, ownEul}
 use Rattle.methodology.specs.Member.{isClient, isR, houseEul, halfOfClients, twoLargestOfR, partB, partC, memberEul}
 use Rattle.methodology.specs.Refusals.{limit}
-use Rattle.validation.specs.Slices.{none, Amounts, Lent, Within}
+use Rattle.validation.specs.Slices.{none, Lent, Within}
 use Rattle.exposure.specs.declared.member.Tally.{Tally}
 use Rattle.exposure.specs.Ranges.{Npvs, Owed}
 use Rattle.exposure.specs.Scenario.{fallUnder, eulBy}
 use Rattle.exposure.specs.Tally.{largestOfR, eulOver, Held, Small, Counted, Ended}
 use Rattle.exposure.specs.Member.{MemberEul}
 use Rattle.exposure.proofs.Decreases.{fall-le}
+use Rattle.exposure.proofs.Bounds.{eul-abs}
 
 -- nothing counted yet
 abbrev pub empty : Tally
 empty = record { house = pos 0; clients = 0; first = 0; second = 0; others = 0 }
-
-one-of-two : (l : List ℕ) → greatest l (λ x. x) ≤ Σ (take 2 (descending l)) (λ x. x)
-unfolding greatest Σ descending
-one-of-two [] = omega arith
-one-of-two (x ∷ l) = omega (arith, two-largest x l, one-of-two l)
 
 all-left : (c l w : ℕ) → l ≤ w → max (ceilDiv (0 + c) 2) (max (0 + 0) (max (0 + l) w)) ≡ max (ceilDiv c 2) w
 unfolding ceilDiv
@@ -50,7 +46,7 @@ over-empty eul accts =
     let rs = map (λ (a : Account). eul a ⁺) (keep isR accts) in
     let c : ℕ = Σ (keep isClient accts) (λ a. eul a ⁺) in
     let z : 0 + partC eul accts ≡ partC eul accts = omega arith in
-    rw (+ℤ-idl (houseEul eul accts), all-left c (greatest rs (λ x. x)) (Σ (take 2 (descending rs)) (λ x. x)) (one-of-two rs), z)
+    rw (+ℤ-idl (houseEul eul accts), all-left c (greatest rs (λ x. x)) (Σ (take 2 (descending rs)) (λ x. x)) (greatest-two rs), z)
 
 -- an account's EUL from its row, margin and extra
 eul-by : (k j : ℕ) (a : Account) → length (a .npvs) ≡ k + 1 → eulBy k j a ≡ eulOf (fallUnder j (a .npvs)) (a .margin) (a .extra)
@@ -63,13 +59,6 @@ eul-by k j a h = by (eqb j 0)
     by : (t : Bool) → cond t (eulOf (largestDecrease k (a .npvs)) (a .margin) (a .extra)) (eulOf (decrease (a .npvs) j) (a .margin) (a .extra)) ≡ eulOf (cond t (largestDecrease (length (a .npvs) - 1) (a .npvs)) (decrease (a .npvs) j)) (a .margin) (a .extra)
     by true = rw last
     by false = refl
-
--- and its bounds
-eul-bound : {f m x : ℕ} → Owed f m x → natAbs (eulOf f m x) ≤ 2 * limit
-unfolding eulOf
-eul-bound {f} {m} {x} p =
-    let d = pos f -ℤ pos m in
-    omega (arith, p .falls, p .margins, p .part, sub (pos f) (pos m), add d (pos x), one-zero (d +ℤ pos x), abs-is (d +ℤ pos x))
 
 pub record Pass (k j : ℕ) (kinds : List ℕ) (npvs : List ℤ) (margins extras : List ℕ) (t : Tally) (i at : ℕ) : Type 0 where
   pub most : i ≤ length kinds
@@ -120,7 +109,7 @@ module _ {k j : ℕ} {kinds : List ℕ} {npvs : List ℤ} {margins extras : List
       is = back-ok w64 e ok ∙ q′
 
       pub eul-near : natAbs (toZ w64 (ofZ w64 e)) ≤ 2 * limit
-      eul-near = rw is (eul-bound (owed g f q))
+      eul-near = let o = owed g f q in rw is (eul-abs (o .falls) (o .margins) (o .part))
 
       account : (accts : List Account) (l : Lent k kinds npvs margins extras accts) → i < length accts → eulBy k j (getD accts i none) ≡ toZ w64 (ofZ w64 e)
       account accts l c =

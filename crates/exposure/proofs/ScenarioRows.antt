@@ -1,5 +1,5 @@
 -- A member's row of EULs, filled scenario by scenario, for any accounts that the slices hold.
-use mathlib.Core.Path.{_≡_, refl, sym, ap, _∙_, fun-ext}
+use mathlib.Core.Path.{_≡_, ap, _∙_, fun-ext}
 use mathlib.Core.List.{List}
 use Prim.Native.Nat.{ℕ, suc, _+_, _*_, _≤_, _<_, _^_}
 use native.Mathlib.Numerals.{add-one}
@@ -11,20 +11,22 @@ use borrow.Author.Tests.{ne-eqb}
 use mir.Syntax.{w64}
 use mir.Val.{toZ, ofZ}
 use Rattle.numbers.proofs.Signed.{back-ok}
+use Rattle.numbers.proofs.Lists.{at-set, replicate-at}
+use Rattle.numbers.proofs.Filling.{Filled, filled-none, filled-more}
 use Rattle.methodology.specs.Account.{Account, eulUnder}
 use Rattle.methodology.specs.Member.{memberEul}
 use Rattle.methodology.specs.Refusals.{limit}
 use Rattle.validation.specs.Slices.{Lent}
 use Rattle.exposure.specs.Scenario.{eulBy}
 use Rattle.exposure.specs.Member.{MemberEul}
-use Rattle.exposure.specs.Rows.{rowOf, ScenarioRow}
-use Rattle.exposure.proofs.Tables.{zero-at, Filled, filled-none, filled-more, is-row, set-within}
+use Rattle.exposure.specs.Rows.{ScenarioRow}
+use Rattle.exposure.proofs.Tables.{is-row}
 
 pub record RowPass (k : ℕ) (kinds : List ℕ) (npvs : List ℤ) (margins extras : List ℕ) (row : List ℤ) (j : ℕ) : Type 0 where
   pub high : j ≤ k
   pub long : length row ≡ 16
   pub bound : (x : ℕ) → natAbs (getD row x (pos 0)) ≤ 3 * limit * length kinds
-  pub is : (accts : List Account) → Lent k kinds npvs margins extras accts → Filled (λ x. memberEul (eulUnder (suc x)) accts) (replicate 16 (pos 0)) row j
+  pub is : (accts : List Account) → Lent k kinds npvs margins extras accts → Filled 16 (λ x. memberEul (eulUnder (suc x)) accts) (pos 0) (replicate 16 (pos 0)) j row
 
 under : (k j : ℕ) → eulBy k (suc j) ≡ eulUnder (suc j)
 unfolding eulBy
@@ -36,8 +38,8 @@ module _ {k : ℕ} {kinds : List ℕ} {npvs : List ℤ} {margins extras : List �
       record {
         high = omega arith;
         long = length-replicate 16 (pos 0);
-        bound = λ x. rw (zero-at 16 x) (omega arith);
-        is = λ accts l. filled-none _ (replicate 16 (pos 0)) (length-replicate 16 (pos 0));
+        bound = λ x. rw (replicate-at 16 x (pos 0)) (omega arith);
+        is = λ accts l. filled-none 16 _ (pos 0) (replicate 16 (pos 0)) (length-replicate 16 (pos 0));
       }
 
   pub row-more : {row : List ℤ} {j : ℕ} (e : ℤ) → k ≤ 16 → j < k → mag e < 2 ^ 63 → MemberEul k (j + 1) kinds npvs margins extras e → RowPass k kinds npvs margins extras row j
@@ -47,10 +49,10 @@ module _ {k : ℕ} {kinds : List ℕ} {npvs : List ℤ} {margins extras : List �
       record {
         high = omega arith;
         long = length-set row j (toZ w64 (ofZ w64 e)) ∙ p .long;
-        bound = set-within row j (3 * limit * length kinds) (toZ w64 (ofZ w64 e)) (omega (arith, p .long)) (rw v (m .bound)) (p .bound);
+        bound = at-set (λ x z. natAbs z ≤ 3 * limit * length kinds) row j (toZ w64 (ofZ w64 e)) (pos 0) (omega (arith, p .long)) (rw v (m .bound)) (λ x q. p .bound x);
         is =
             λ accts l.
-            filled-more _ (replicate 16 (pos 0)) (omega arith)
+            filled-more 16 _ (pos 0) (replicate 16 (pos 0)) (omega arith)
             (v ∙ m .is accts l ∙ ap (λ (n : ℕ). memberEul (eulBy k n) accts) (add-one j) ∙ ap (λ (f : Account → ℤ). memberEul f accts) (under k j))
             (p .is accts l);
       }

@@ -1,61 +1,25 @@
--- Rows of 16 numbers as tables: their elements, their sum, their greatest, and how a program fills one place after another.
+-- Rows of 16 numbers as tables: their elements, their sum, their greatest, and the row that a program fills scenario by scenario.
 use mathlib.Core.Path.{_≡_, refl, sym, ap, _∙_}
 use mathlib.Core.Bool.{Bool, true, false, cond}
-use mathlib.Core.List.{List, [], _∷_, map}
-use Prim.Native.Nat.{ℕ, zero, suc, _+_, _-_, _*_, _≤_, _<_, _^_, max}
+use mathlib.Core.List.{List, [], map}
+use Prim.Native.Nat.{ℕ, zero, suc, _+_, _-_, _≤_, _<_}
 use native.Mathlib.Nat.{zero-add}
 use native.Mathlib.Omega.{arith}
-use lib.Arith.{lt-of-le-ne}
-use lib.Dec.{ltb, eqb}
+use lib.Dec.{ltb}
 use lib.IntN.{ℤ, pos, natAbs, _+ℤ_}
-use lib.ListN.{length, getD, set, length-set, replicate, getD-replicate, List·getD-eq-default}
-use lib.Seq.{getD-set-same, getD-set-other}
-use borrow.Author.Tests.{eqb-true, eqb-false, lt-ltb, le-ltb, ltb-true, ltb-false}
+use lib.ListN.{length, getD, set, replicate, getD-replicate, List·getD-eq-default}
+use borrow.Author.Tests.{lt-ltb, le-ltb, ltb-true, ltb-false}
 use mir.Syntax.{w64}
 use mir.Val.{SFits, toZ, ofZ}
 use Rattle.numbers.specs.Signed.{_⁺}
 use Rattle.numbers.specs.Lists.{range}
 use Rattle.numbers.specs.Sums.{greatest}
 use Rattle.numbers.proofs.Signed.{abs-add, fits-abs, back}
-use Rattle.numbers.proofs.Lists.{mem-range, range-append, is-table, table-at, table-length, map-eq}
+use Rattle.numbers.proofs.Lists.{mem-range, range-append, range-suc, is-table, table-at, table-length, map-eq}
+use Rattle.numbers.proofs.Filling.{Filled}
 use Rattle.numbers.proofs.Sums.{greatest-le, greatest-eq, greatest-append, greatest-map}
 use Rattle.methodology.specs.Account.{scenarios}
 use Rattle.exposure.specs.Rows.{rowOf, plus, Near, withRow}
-
--- a list that is filled from the front: the first j numbers are f's, the others still those of `old`
-pub record Filled (f : ℕ → ℤ) (old l : List ℤ) (j : ℕ) : Type 0 where
-  pub high : j ≤ 16
-  pub long : length l ≡ 16
-  pub done : (x : ℕ) → x < j → getD l x (pos 0) ≡ f x
-  pub rest : (x : ℕ) → j ≤ x → getD l x (pos 0) ≡ getD old x (pos 0)
-
-module _ (f : ℕ → ℤ) (old : List ℤ) where
-  pub filled-none : length old ≡ 16 → Filled f old old 0
-  filled-none h = record { high = omega arith; long = h; done = λ x l. let no-way : ⊥ = omega arith in absurd no-way; rest = λ x l. refl }
-
-  pub filled-more : {l : List ℤ} {j : ℕ} {v : ℤ} → j < 16 → v ≡ f j → Filled f old l j → Filled f old (set l j v) (j + 1)
-  filled-more {l} {j} {v} h e p =
-      record {
-        high = omega arith;
-        long = length-set l j v ∙ p .long;
-        done = λ x k. by x (eqb x j) refl k;
-        rest = λ x k. getD-set-other l j x v (pos 0) (λ q. omega arith) ∙ p .rest x (omega arith);
-      }
-    where
-      by : (x : ℕ) (t : Bool) → eqb x j ≡ t → x < j + 1 → getD (set l j v) x (pos 0) ≡ f x
-      by x true q k = let s = eqb-true x j q in rw s (getD-set-same l j v (pos 0) (omega (arith, p .long)) ∙ e)
-      by x false q k = getD-set-other l j x v (pos 0) (eqb-false x j q) ∙ p .done x (lt-of-le-ne (omega arith) (eqb-false x j q))
-
-  pub filled-all : {l : List ℤ} {j : ℕ} → 16 ≤ j → Filled f old l j → l ≡ map f (range 0 16)
-  filled-all {l} k p = is-table f 0 16 (pos 0) l (p .long) (λ i h. p .done i (omega arith) ∙ ap f (sym (zero-add i)))
-
--- numbers of a list stay within a bound where one is replaced by another within it
-pub set-within : (l : List ℤ) (j b : ℕ) (v : ℤ) → j < length l → natAbs v ≤ b → ((x : ℕ) → natAbs (getD l x (pos 0)) ≤ b) → (x : ℕ) → natAbs (getD (set l j v) x (pos 0)) ≤ b
-set-within l j b v h k p x = by (eqb x j) refl
-  where
-    by : (t : Bool) → eqb x j ≡ t → natAbs (getD (set l j v) x (pos 0)) ≤ b
-    by true q = let s = eqb-true x j q in rw (s, getD-set-same l j v (pos 0) h) k
-    by false q = rw (getD-set-other l j x v (pos 0) (eqb-false x j q)) (p x)
 
 -- numbers far from the ends of 64 bits: read back as they are, and two of them may be added
 pub near-back : {row : List ℤ} → Near row → (x : ℕ) → toZ w64 (ofZ w64 (getD row x (pos 0))) ≡ getD row x (pos 0)
@@ -77,14 +41,8 @@ module _ (k : ℕ) (f : ℕ → ℤ) where
   unfolding rowOf
   row-long = table-length (λ y. cond (ltb y k) (f (suc y)) (pos 0)) 0 16
 
--- a number of a row of zeros
-pub zero-at : (n x : ℕ) → getD (replicate n (pos 0)) x (pos 0) ≡ pos 0
-zero-at zero x = refl
-zero-at (suc n) zero = refl
-zero-at (suc n) (suc x) = zero-at n x
-
 -- a row of zeros, filled up to the last scenario
-pub is-row : (k : ℕ) (f : ℕ → ℤ) {l : List ℤ} → Filled (λ x. f (suc x)) (replicate 16 (pos 0)) l k → l ≡ rowOf k f
+pub is-row : (k : ℕ) (f : ℕ → ℤ) {l : List ℤ} → Filled 16 (λ x. f (suc x)) (pos 0) (replicate 16 (pos 0)) k l → l ≡ rowOf k f
 unfolding rowOf
 is-row k f {l} p = is-table (λ y. cond (ltb y k) (f (suc y)) (pos 0)) 0 16 (pos 0) l (p .long) (λ i h. by i (ltb i k) refl h ∙ ap (λ (y : ℕ). cond (ltb y k) (f (suc y)) (pos 0)) (sym (zero-add i)))
   where
@@ -122,11 +80,6 @@ plus-bound {m} {n} a b p q x = by (ltb x 16) refl
     by false e = rw (List·getD-eq-default (map f (range 0 16)) (pos 0) {n = x} (omega (arith, ltb-false x 16 e, table-length f 0 16))) (omega arith)
 
 -- the greatest of a row
-shifted : (g : ℕ → ℕ) (a n : ℕ) → greatest (range a n) (λ x. g (suc x)) ≡ greatest (range (suc a) n) g
-unfolding greatest range
-shifted g a zero = refl
-shifted g a (suc n) = ap (max (g (suc a))) (shifted g (suc a) n)
-
 pub row-greatest : (k : ℕ) (f : ℕ → ℤ) → k ≤ 16 → greatest (rowOf k f) (λ z. z ⁺) ≡ greatest (scenarios k) (λ j. f j ⁺)
 unfolding rowOf
 row-greatest k f h =
@@ -134,10 +87,11 @@ row-greatest k f h =
     let number : ℕ → ℕ = λ x. cond (ltb x k) (f (suc x)) (pos 0) ⁺ in
     let seen = greatest-eq (range 0 k) number (λ x. f (suc x) ⁺) (λ x m. rw (lt-ltb x k (omega (arith, mem-range 0 k m)))) in
     let past = greatest-le (range (0 + k) (16 - k)) number 0 (λ x m. rw (le-ltb x k (omega (arith, mem-range (0 + k) (16 - k) m))) (omega arith)) in
+    let shifted : greatest (range 0 k) (λ x. f (suc x) ⁺) ≡ greatest (scenarios k) (λ j. f j ⁺) = sym (greatest-map suc (range 0 k) (λ j. f j ⁺)) ∙ ap (λ (l : List ℕ). greatest l (λ j. f j ⁺)) (range-suc 0 k) in
     greatest-map _ (range 0 16) _
     ∙ ap (λ (n : ℕ). greatest (range 0 n) number) (sym all)
     ∙ ap (λ (l : List ℕ). greatest l number) (range-append 0 k (16 - k))
-    ∙ omega (arith, greatest-append (range 0 k) (range (0 + k) (16 - k)) number, shifted (λ j. f j ⁺) 0 k)
+    ∙ omega (arith, greatest-append (range 0 k) (range (0 + k) (16 - k)) number)
 
 -- a row added to its group's: none, and one
 pub with-none : (rows : List (List ℤ)) (g : ℕ) (row : List ℤ) → g ≡ 0 → rows ≡ withRow rows g row

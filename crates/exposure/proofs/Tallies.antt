@@ -2,7 +2,7 @@
 use mathlib.Core.Path.{_≡_, refl, sym, ap, subst, _∙_}
 use mathlib.Core.Bool.{Bool, true, false, _||_}
 use mathlib.Core.List.{List, [], _∷_, map}
-use Prim.Native.Nat.{ℕ, _+_, _*_, _/_, _≤_, _<_, _^_, max}
+use Prim.Native.Nat.{ℕ, _+_, _*_, _/_, _≤_, _<_, max}
 use native.Mathlib.Decide.{ℕ-discrete}
 use native.Mathlib.Nat.{add-assoc}
 use native.Mathlib.Omega.{arith}
@@ -16,7 +16,8 @@ use Rattle.numbers.specs.Signed.{_⁺}
 use Rattle.numbers.specs.Lists.{keep, descending}
 use Rattle.numbers.specs.Sums.{Σ, Σℤ, greatest}
 use Rattle.numbers.specs.Rounding.{ceilDiv}
-use Rattle.numbers.proofs.Signed.{signed, add, abs-is, abs-add, one-zero, fits-abs}
+use Rattle.numbers.proofs.Signed.{⁺-abs, abs-add, fits-abs}
+use Rattle.numbers.proofs.Lists.{keep-cons, keep-cons-skip}
 use Rattle.numbers.proofs.Sorting.{two-largest}
 use Rattle.methodology.specs.Account.{Account, kindH, kindR, kindA, kindU}
 use Rattle.methodology.specs.Member.{isHouse, isClient, isR, isAorU, houseEul, twoLargestOfR, partC}
@@ -29,7 +30,7 @@ pub house-fits : {t : Tally} → Small t → SFits w64 (t .house)
 house-fits {t} s = fits-abs (t .house) (omega arith)
 
 pub gain-le : (e : ℤ) → natAbs e ≤ 2 * limit → e ⁺ ≤ 2 * limit
-gain-le e h = omega (arith, abs-is e)
+gain-le e h = omega (arith, ⁺-abs e)
 
 -- the two largest of kind R, with g in its place
 top : (f s g l w : ℕ) → s ≤ f → f < g → max (g + f) (max (g + l) w) ≡ max (f + s) (max (f + max g l) (max (g + l) w))
@@ -54,15 +55,6 @@ below f s g l w h k = by (leb s g) refl
         let m : max s g ≡ s = omega arith in
         rw m (low f s g l w h (omega arith))
 
--- an account that passes a test is kept, and another is not
-kept : (test : Account → Bool) (a : Account) (rest : List Account) → test a ≡ true → keep test (a ∷ rest) ≡ a ∷ keep test rest
-unfolding keep
-kept test a rest h = rw h
-
-left : (test : Account → Bool) (a : Account) (rest : List Account) → test a ≡ false → keep test (a ∷ rest) ≡ keep test rest
-unfolding keep
-left test a rest h = rw h
-
 module _ (t : Tally) (e : ℤ) (s : Small t) (b : natAbs e ≤ 2 * limit) where
   pub sum-fits : SFits w64 (t .house +ℤ e)
   sum-fits = fits-abs (t .house +ℤ e) (omega (arith, abs-add (t .house) e))
@@ -74,7 +66,7 @@ module _ (t : Tally) (e : ℤ) (s : Small t) (b : natAbs e ≤ 2 * limit) where
   over-house : (eul : Account → ℤ) (a : Account) (rest : List Account) → a .heading .kind ≡ kindH → eul a ≡ e → eulOver with-house eul rest ≡ eulOver t eul (a ∷ rest)
   unfolding eulOver houseEul twoLargestOfR largestOfR partC Σℤ
   over-house eul a rest q r =
-      rw (kept isHouse a rest (rw q), left isClient a rest (rw q), left isR a rest (rw q), left isAorU a rest (rw q))
+      rw (keep-cons isHouse a rest (rw q), keep-cons-skip isClient a rest (rw q), keep-cons-skip isR a rest (rw q), keep-cons-skip isAorU a rest (rw q))
       (cc (r, +ℤ-assoc (t .house) e (Σℤ (keep isHouse rest) eul)))
 
   pub house : Counted t kindH e with-house
@@ -91,7 +83,7 @@ module _ (t : Tally) (e : ℤ) (s : Small t) (b : natAbs e ≤ 2 * limit) where
   over-other : (eul : Account → ℤ) (a : Account) (rest : List Account) → isHouse a ≡ false → isR a ≡ false → isAorU a ≡ true → eul a ≡ e → eulOver with-other eul rest ≡ eulOver t eul (a ∷ rest)
   unfolding eulOver houseEul twoLargestOfR largestOfR partC Σ
   over-other eul a rest h₀ h₁ h₂ r =
-      rw (left isHouse a rest h₀, kept isClient a rest (rw (h₁, h₂)), left isR a rest h₁, kept isAorU a rest h₂, r)
+      rw (keep-cons-skip isHouse a rest h₀, keep-cons isClient a rest (rw (h₁, h₂)), keep-cons-skip isR a rest h₁, keep-cons isAorU a rest h₂, r)
       (cc (add-assoc (t .clients) (e ⁺) (Σ (keep isClient rest) (λ x. eul x ⁺)), add-assoc (t .others) (e ⁺) (Σ (keep isAorU rest) (λ x. eul x ⁺))))
 
   two-or-three : (k : ℕ) → k ≤ kindU → (k ≡ kindH → ⊥) → (k ≡ kindR → ⊥) → Dec (k ≡ kindA) → (eqb k kindA || eqb k kindU) ≡ true
@@ -121,7 +113,7 @@ module _ (t : Tally) (e : ℤ) (s : Small t) (b : natAbs e ≤ 2 * limit) where
   unfolding eulOver houseEul twoLargestOfR largestOfR partC Σ greatest
   over-R f g h eul a rest q r =
       let rs = map (λ (x : Account). eul x ⁺) (keep isR rest) in
-      rw (left isHouse a rest (rw q), kept isClient a rest (rw q), kept isR a rest (rw q), left isAorU a rest (rw q), r, two-largest (e ⁺) rs)
+      rw (keep-cons-skip isHouse a rest (rw q), keep-cons isClient a rest (rw q), keep-cons isR a rest (rw q), keep-cons-skip isAorU a rest (rw q), r, two-largest (e ⁺) rs)
       (cc (add-assoc (t .clients) (e ⁺) (Σ (keep isClient rest) (λ x. eul x ⁺)), h (greatest rs (λ x. x)) (Σ (take 2 (descending rs)) (λ x. x))))
 
   pub first : t .first < e ⁺ → Counted t kindR e (ranked (e ⁺) (t .first))

@@ -1,12 +1,12 @@
 -- What the program finds of a day, for any accounts that its slices hold.
 use mathlib.Core.Path.{_≡_}
 use mathlib.Core.List.{List, map}
-use Prim.Native.Nat.{ℕ, _-_, _*_, _≤_, _<_}
+use Prim.Native.Nat.{ℕ, _-_, _*_, _≤_}
 use lib.IntN.{ℤ, pos, natAbs}
 use lib.ListN.{length, getD, take, drop}
 use Rattle.numbers.specs.Signed.{_⁺}
 use Rattle.numbers.specs.Sums.{Σ}
-use Rattle.methodology.specs.Account.{Opening, Account, members, eulUnder, ownEul}
+use Rattle.methodology.specs.Account.{Account, members, eulUnder, ownEul}
 use Rattle.methodology.specs.Member.{memberEul, loss}
 use Rattle.methodology.specs.Day.{maxEul}
 use Rattle.methodology.specs.Refusals.{limit}

@@ -4,10 +4,10 @@ use mathlib.Core.List.{List, map, flatMap}
 use Prim.Native.Nat.{ℕ}
 use lib.ListN.{length, take}
 use Rattle.numbers.specs.Sums.{Σ}
+use Rattle.numbers.proofs.Rows.{flatMap-map}
 use Rattle.numbers.proofs.Sums.{Σ-map}
 use Rattle.methodology.specs.Account.{Opening, members}
 use Rattle.methodology.specs.Contribution.{KeptDay, highest, sumOfShares, charge, raw, funded, three, contributions, totalFunded}
-use Rattle.fund.proofs.More.{flatMap-map}
 
 module _ (o : Opening) (days : List KeptDay) (sums : List ℕ) (h : take (o .n) sums ≡ map (sumOfShares o days) (members (o .n))) where
   pub are-contributions : flatMap (λ s. three (charge (highest o days) s (length days))) (take (o .n) sums) ≡ contributions o days

@@ -3,10 +3,10 @@ use mathlib.Core.Path.{_≡_}
 use mathlib.Core.List.{List, map, flatMap}
 use Prim.Native.Nat.{ℕ}
 use lib.ListN.{take}
+use Rattle.numbers.proofs.Rows.{flatMap-map}
 use Rattle.methodology.specs.Account.{Opening, Account, members}
 use Rattle.methodology.specs.Member.{loss}
 use Rattle.methodology.specs.Day.{total, maxEul, five, dailies}
-use Rattle.fund.proofs.More.{flatMap-map}
 
 pub are-dailies : (o : Opening) (accts : List Account) (losses : List ℕ) → take (o .n) losses ≡ map (loss (o .k) accts) (members (o .n))
     → flatMap (λ e. five e (maxEul o accts) (total o accts)) (take (o .n) losses) ≡ dailies o accts

@@ -1,4 +1,2 @@
-mod More
-mod Stretches
 pub mod Dailies
 pub mod Contributions

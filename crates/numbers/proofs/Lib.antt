@@ -1,7 +1,10 @@
+pub mod Tests
 pub mod Signed
 pub mod Lists
 pub mod Rows
+pub mod Filling
 pub mod Sums
 pub mod Sorting
 pub mod Fractions
 pub mod Rounding
+pub mod Division

@@ -2,15 +2,18 @@
 -- A law about each element takes a function on the members, `(x : A) → x ∈ xs → ..`; `by-index` makes one of a fact about each index.
 use mathlib.Core.Path.{_≡_, refl, sym, ap, ap₂, _∙_, subst}
 use mathlib.Core.Bool.{Bool, true, false, cond, _&&_, _||_, or-assoc, or-true, true≢false}
-use mathlib.Core.List.{List, [], _∷_, _++_, map}
+use mathlib.Core.List.{List, [], _∷_, _++_, map, append-nil}
 use mathlib.Core.List.{List·Memᴰ, List·Memᴰ·head as here, List·Memᴰ·tail as there, List·Memᴰ·not-nil}
 use Prim.Native.Nat.{ℕ, zero, suc, _+_, _-_, _≤_, _<_}
 use native.Mathlib.Omega.{arith}
 use native.Mathlib.Numerals.{add-one}
-use native.Mathlib.Nat.{not-suc-le-zero, le-of-suc-le-suc, add-zero, zero-add, suc-add, add-suc, sub-zero, zero-sub, suc-sub-suc}
-use lib.ListN.{length, getD, take, drop, length-map, length-drop, drop-of-length-le}
-use lib.Seq.{drop-cons, drop-drop, take-nil, take-take, getD-take, getD-drop, length-take-le, ext-getD}
+use native.Mathlib.Nat.{not-suc-le-zero, le-of-suc-le-suc, add-zero, zero-add, suc-add, add-suc, add-comm, sub-zero, zero-sub, suc-sub-suc}
+use lib.Dec.{eqb}
+use lib.ListN.{length, getD, take, drop, set, replicate, length-map, length-drop, drop-of-length-le}
+use lib.Seq.{drop-cons, drop-drop, take-nil, drop-nil, take-take, getD-take, getD-drop, getD-set-same, getD-set-other, length-take-le, ext-getD}
+use borrow.Author.Tests.{eqb-true, eqb-false}
 use Rattle.numbers.specs.Lists.{range, keep, any, firstWhere}
+use Rattle.numbers.proofs.Tests.{neither}
 
 infix 50 _∈_
 -- x is one of the elements
@@ -29,6 +32,34 @@ mem-index d (there m) = let (i, h, e) = mem-index d m in (suc i, omega arith, e)
 
 pub by-index : {A : Type 0} (P : A → Type 0) (xs : List A) (d : A) → ((i : ℕ) → i < length xs → P (getD xs i d)) → (x : A) → x ∈ xs → P x
 by-index P xs d h x m = let (i, k, e) = mem-index d m in subst P e (h i k)
+
+-- what holds at each index and of the default holds past the end too
+pub at-any : {A : Type 0} (P : A → Type 0) (xs : List A) (d : A) → P d → ((i : ℕ) → i < length xs → P (getD xs i d)) → (i : ℕ) → P (getD xs i d)
+at-any P [] d z h i = z
+at-any P (x ∷ xs) d z h zero = h 0 (omega arith)
+at-any P (x ∷ xs) d z h (suc i) = at-any P xs d z (λ j k. h (suc j) (omega arith)) i
+
+-- one element replaced: what holds of the new one and of each other at its index holds at each index
+pub at-set : {A : Type 0} (P : ℕ → A → Type 0) (xs : List A) (i : ℕ) (v d : A) → i < length xs → P i v → ((j : ℕ) → (j ≡ i → ⊥) → P j (getD xs j d)) → (j : ℕ) → P j (getD (set xs i v) j d)
+at-set P xs i v d h p q j = by (eqb j i) refl
+  where
+    by : (t : Bool) → eqb j i ≡ t → P j (getD (set xs i v) j d)
+    by true e = rw (eqb-true j i e, getD-set-same xs i v d h) p
+    by false e = rw (getD-set-other xs i j v d (eqb-false j i e)) (q j (eqb-false j i e))
+
+-- from one index to a later one, step by step
+pub by-steps : (P : ℕ → Type 0) (i j : ℕ) → i ≤ j → P i → ((k : ℕ) → i ≤ k → k < j → P k → P (suc k)) → P j
+by-steps P i j h p step = let e : i + (j - i) ≡ j = omega arith in subst P e (by (j - i) (omega arith))
+  where
+    by : (n : ℕ) → i + n ≤ j → P (i + n)
+    by zero l = rw add-zero p
+    by (suc n) l = rw add-suc (step (i + n) (omega arith) (omega arith) (by n (omega arith)))
+
+-- the same element many times, and past the end
+pub replicate-at : {A : Type 0} (n i : ℕ) (x : A) → getD (replicate n x) i x ≡ x
+replicate-at zero i x = refl
+replicate-at (suc n) zero x = refl
+replicate-at (suc n) (suc i) x = replicate-at n i x
 
 -- ranges
 pub range-length : (a n : ℕ) → length (range a n) ≡ n
@@ -57,6 +88,15 @@ range-append a (suc m) n = rw (suc-add, add-suc, ← suc-add) (ap (λ (l : List 
 pub range-more : (a n : ℕ) → range a (suc n) ≡ range a n ++ ((a + n) ∷ [])
 unfolding range
 range-more a n = ap (range a) (sym (add-one n)) ∙ range-append a n 1
+
+pub upto-more : (n : ℕ) → range 1 (n + 1) ≡ range 1 n ++ ((n + 1) ∷ [])
+upto-more n = rw (add-one n, range-more 1 n, ← add-one n, add-comm 1 n)
+
+-- the same numbers, each 1 greater
+pub range-suc : (a n : ℕ) → map suc (range a n) ≡ range (suc a) n
+unfolding range
+range-suc a zero = refl
+range-suc a (suc n) = ap (λ (l : List ℕ). suc a ∷ l) (range-suc (suc a) n)
 
 -- the members of a range
 pub mem-range : {x : ℕ} (a n : ℕ) → x ∈ range a n → (a ≤ x) × (x < a + n)
@@ -103,6 +143,10 @@ module _ {B : Type 0} (f : ℕ → B) (a n : ℕ) where
   pub is-table : (d : B) (l : List B) → length l ≡ n → ((i : ℕ) → i < n → getD l i d ≡ f (a + i)) → l ≡ map f (range a n)
   is-table d l e h = ext-getD d l (map f (range a n)) (e ∙ sym table-length) (λ i k. let k′ : i < n = omega arith in h i k′ ∙ sym (table-at i d k′))
 
+-- a list is the table of its elements
+pub own-table : {A : Type 0} (l : List A) (d : A) → l ≡ map (λ i. getD l i d) (range 0 (length l))
+own-table l d = is-table (λ i. getD l i d) 0 (length l) d l refl (λ i h. rw zero-add)
+
 -- a part: n elements from a on
 module _ {A : Type 0} where
   pub part-length : (a n : ℕ) (l : List A) → a + n ≤ length l → length (take n (drop a l)) ≡ n
@@ -111,6 +155,11 @@ module _ {A : Type 0} where
   pub part-at : (a n : ℕ) (l : List A) (i : ℕ) (d : A) → i < n → getD (take n (drop a l)) i d ≡ getD l (a + i) d
   part-at a n l i d h = getD-take n (drop a l) i d h ∙ getD-drop a l i d
 
+  -- an index of a part is one of the whole, further on
+  pub part-index : (a n : ℕ) (l : List A) (i : ℕ) → a + n ≤ length l → i < length (take n (drop a l)) → (i < n) × (a + i < length l)
+  part-index a n l i h k = omega (arith, part-length a n l h)
+
+  -- a part of a part
   pub drop-take : (n m : ℕ) (l : List A) → drop n (take m l) ≡ take (m - n) (drop n l)
   drop-take zero m l = rw sub-zero
   drop-take (suc n) zero l = rw zero-sub
@@ -131,6 +180,24 @@ module _ {A : Type 0} (p : A → Bool) where
       by true = refl
       by false = refl
 
+  -- one element more, in front or at the end: it is kept where it passes, and nothing changes where it fails
+  pub keep-cons : (x : A) (xs : List A) → p x ≡ true → keep p (x ∷ xs) ≡ x ∷ keep p xs
+  unfolding keep
+  keep-cons x xs e = rw e
+
+  pub keep-cons-skip : (x : A) (xs : List A) → p x ≡ false → keep p (x ∷ xs) ≡ keep p xs
+  unfolding keep
+  keep-cons-skip x xs e = rw e
+
+  pub keep-snoc : (xs : List A) (x : A) → p x ≡ true → keep p (xs ++ (x ∷ [])) ≡ keep p xs ++ (x ∷ [])
+  unfolding keep
+  keep-snoc xs x e = rw (keep-append xs (x ∷ []), e)
+
+  pub keep-snoc-skip : (xs : List A) (x : A) → p x ≡ false → keep p (xs ++ (x ∷ [])) ≡ keep p xs
+  unfolding keep
+  keep-snoc-skip xs x e = rw (keep-append xs (x ∷ []), e, append-nil)
+
+  -- how many, and which
   pub keep-length : (xs : List A) → length (keep p xs) ≤ length xs
   unfolding keep
   keep-length [] = omega arith
@@ -184,11 +251,30 @@ unfolding keep
 keep-none p [] h = refl
 keep-none p (x ∷ xs) h = rw (h x (here refl), keep-none p xs (λ y m. h y (there m)))
 
--- whether any element passes a test: it fails at each member where none does, and passes at one where one does
-neither : (s t : Bool) → (s || t) ≡ false → (s ≡ false) × (t ≡ false)
-neither true t e = (e, cc)
-neither false t e = (refl, e)
+-- where the elements from a to b - 1 pass a test and no others do, they are those that pass
+pub keep-part : {A : Type 0} (p : A → Bool) (xs : List A) (d : A) (a b : ℕ) → a ≤ b → b ≤ length xs
+    → ((i : ℕ) → i < a → p (getD xs i d) ≡ false)
+    → ((i : ℕ) → a ≤ i → i < b → p (getD xs i d) ≡ true)
+    → ((i : ℕ) → b ≤ i → i < length xs → p (getD xs i d) ≡ false)
+    → keep p xs ≡ take (b - a) (drop a xs)
+unfolding keep
+keep-part p [] d a b h k f g e = rw (drop-nil, take-nil)
+keep-part p (x ∷ xs) d zero zero h k f g e =
+    keep-none p (x ∷ xs) (by-index (λ y. p y ≡ false) (x ∷ xs) d (λ i. e i (omega arith)))
+keep-part p (x ∷ xs) d zero (suc b) h k f g e =
+    let rest =
+    keep-part p xs d 0 b (omega arith) (omega arith) (λ i l. absurd (not-suc-le-zero l))
+    (λ i l n. g (suc i) (omega arith) (omega arith))
+    (λ i l n. e (suc i) (omega arith) (omega arith)) in
+    rw (g 0 (omega arith) (omega arith), sub-zero) (ap (λ (l : List _). x ∷ l) (rw sub-zero at rest))
+keep-part p (x ∷ xs) d (suc a) zero h k f g e = absurd (not-suc-le-zero h)
+keep-part p (x ∷ xs) d (suc a) (suc b) h k f g e =
+    rw (f 0 (omega arith), suc-sub-suc)
+    (keep-part p xs d a b (omega arith) (omega arith) (λ i l. f (suc i) (omega arith))
+    (λ i l n. g (suc i) (omega arith) (omega arith))
+    (λ i l n. e (suc i) (omega arith) (omega arith)))
 
+-- whether any element passes a test: it fails at each member where none does
 module _ {A : Type 0} (p : A → Bool) where
   pub any-append : (xs ys : List A) → any p (xs ++ ys) ≡ (any p xs || any p ys)
   unfolding any
@@ -205,6 +291,11 @@ module _ {A : Type 0} (p : A → Bool) where
   none-any [] h = refl
   none-any (x ∷ xs) h = rw (h x (here refl)) (none-any xs (λ y m. h y (there m)))
 
+  -- a search that passed every index
+  pub any-none : (xs : List A) (d : A) (i : ℕ) → length xs ≤ i → ((j : ℕ) → j < i → p (getD xs j d) ≡ false) → any p xs ≡ false
+  any-none xs d i h f = none-any xs (by-index (λ x. p x ≡ false) xs d (λ j l. f j (omega arith)))
+
+  -- where one does
   pub any-true : (xs : List A) → any p xs ≡ true → (x : A) × (x ∈ xs) × (p x ≡ true)
   unfolding any
   any-true [] e = absurd (true≢false (sym e))
@@ -218,6 +309,12 @@ module _ {A : Type 0} (p : A → Bool) where
   unfolding any
   some-any (here e) h = rw (ap p (sym e) ∙ h)
   some-any (there {x = y} m) h = rw (some-any m h) (or-true (p y))
+
+-- over a mapped list
+pub any-map : {A B : Type 0} (p : B → Bool) (f : A → B) (xs : List A) → any p (map f xs) ≡ any (λ x. p (f x)) xs
+unfolding any
+any-map p f [] = refl
+any-map p f (x ∷ xs) = ap (λ (t : Bool). p (f x) || t) (any-map p f xs)
 
 -- the first that passes a test: all before it fail, it passes if there is one, and no other index is so
 module _ {A : Type 0} (p : A → Bool) where

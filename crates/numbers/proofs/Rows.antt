@@ -1,18 +1,24 @@
 -- Rows one after another, as `flatMap` gives them: where each row and each of its elements stands when all rows have one width, and how a
 -- buffer comes to hold them, row by row.
 use mathlib.Core.Path.{_≡_, refl, sym, ap, _∙_}
-use mathlib.Core.List.{List, [], _∷_, _++_, flatMap, append-assoc, append-nil}
+use mathlib.Core.List.{List, [], _∷_, _++_, map, flatMap, append-assoc, append-nil}
 use Prim.Native.Nat.{ℕ, zero, suc, _+_, _*_, _≤_, _<_}
 use native.Mathlib.Omega.{arith}
 use native.Mathlib.Numerals.{add-one}
-use native.Mathlib.Nat.{mul-zero, mul-suc, mul-le-mul-left}
+use native.Mathlib.Nat.{mul-zero, mul-suc}
 use lib.ListN.{length, getD, take, drop, length-append, drop-of-length-le, List·getD-append}
-use lib.Seq.{drop-cons, drop-drop, drop-nil, take-suc, take-nil, take-all, take-at, drop-at, take-append-add, drop-append-add, getD-drop, length-take-le}
+use lib.Seq.{drop-cons, drop-drop, drop-nil, take-suc, take-nil, take-at, drop-at, take-append-add, drop-append-add, getD-drop, length-take-le}
 
+-- over two lists in one, over a mapped list
 pub flatMap-append : {A B : Type 0} (f : A → List B) (xs ys : List A) → flatMap f (xs ++ ys) ≡ flatMap f xs ++ flatMap f ys
 unfolding flatMap
 flatMap-append f [] ys = refl
 flatMap-append f (x ∷ xs) ys = rw (flatMap-append f xs ys, append-assoc)
+
+pub flatMap-map : {A B C : Type 0} (g : A → B) (xs : List A) (f : B → List C) → flatMap f (map g xs) ≡ flatMap (λ x. f (g x)) xs
+unfolding flatMap
+flatMap-map g [] f = refl
+flatMap-map g (x ∷ xs) f = rw (flatMap-map g xs f)
 
 -- rows of one width w
 module _ {A B : Type 0} (w : ℕ) (f : A → List B) (wide : (x : A) → length (f x) ≡ w) where
@@ -54,7 +60,5 @@ module _ {A B : Type 0} (w : ℕ) (f : A → List B) (wide : (x : A) → length 
       let r : drop (w * i) out ≡ drop (w * i) out₀ = rw e (drop-at (flatMap f (take i xs)) (drop (w * i) out₀) (w * i) l) in
       e′ ∙ rw (t, r, drop-drop w (w * i) out₀, add-one i, mul-suc w i, take-suc xs i d h, flatMap-append, append-nil, append-assoc)
 
-  pub rows-end : (xs : List A) (i : ℕ) (out₀ out : List B) → length xs ≤ i → length out₀ ≤ w * length xs → out ≡ flatMap f (take i xs) ++ drop (w * i) out₀ → out ≡ flatMap f xs
-  rows-end xs i out₀ out h l e =
-      let k : length out₀ ≤ w * i = omega (arith, mul-le-mul-left w h) in
-      rw (take-all i xs h, drop-of-length-le out₀ k, append-nil) at e
+  pub rows-end : (xs : List A) (i : ℕ) (out₀ out : List B) → length out₀ ≤ w * i → out ≡ flatMap f (take i xs) ++ drop (w * i) out₀ → out ≡ flatMap f (take i xs)
+  rows-end xs i out₀ out h e = rw (drop-of-length-le out₀ h, append-nil) at e

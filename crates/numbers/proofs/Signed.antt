@@ -126,6 +126,12 @@ pub abs-is : (z : ℤ) → natAbs z ≡ z ⁺ + z ⁻
 abs-is (pos n) = omega arith
 abs-is (negsuc n) = omega arith
 
+pub ⁺-abs : (z : ℤ) → z ⁺ ≤ natAbs z
+⁺-abs z = omega (arith, abs-is z)
+
+pub ⁺-sub : (a b : ℤ) → (a -ℤ b) ⁺ ≤ natAbs a + natAbs b
+⁺-sub a b = omega (arith, sub a b, one-zero (a -ℤ b), abs-is a, abs-is b)
+
 pub abs-add : (a b : ℤ) → natAbs (a +ℤ b) ≤ natAbs a + natAbs b
 abs-add a b = omega (arith, add a b, one-zero (a +ℤ b), abs-is a, abs-is b, abs-is (a +ℤ b))
 

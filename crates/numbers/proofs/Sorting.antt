@@ -2,16 +2,17 @@
 -- by one number more. Two insertions may be exchanged, and the rest follows.
 use mathlib.Core.Path.{_≡_, refl, sym, ap, ap₂, _∙_}
 use mathlib.Core.Bool.{Bool, true, false, cond}
-use mathlib.Core.List.{List, [], _∷_, _++_, append-nil}
+use mathlib.Core.List.{List, [], _∷_, _++_, map, append-nil, List·Memᴰ·head as here, List·Memᴰ·tail as there}
 use mathlib.Core.List.{List·Permᴰ, List·Permᴰ·nil, List·Permᴰ·cons, List·Permᴰ·swap, List·Permᴰ·trans, Permᴰ·refl, Permᴰ·middle}
-use Prim.Native.Nat.{ℕ, zero, suc, _+_, _-_, _≤_, _<_, max, min}
+use Prim.Native.Nat.{ℕ, zero, suc, _+_, _≤_, _<_, max, min}
 use native.Mathlib.Omega.{arith}
-use native.Mathlib.Nat.{add-zero, add-suc}
 use lib.Dec.{leb}
 use lib.ListN.{length, getD, take}
 use borrow.Author.Tests.{leb-true, leb-false, le-leb, lt-leb}
 use Rattle.numbers.specs.Lists.{insert, descending}
 use Rattle.numbers.specs.Sums.{Σ, greatest}
+use Rattle.numbers.proofs.Lists.{_∈_, by-steps}
+use Rattle.numbers.proofs.Sums.{greatest-map, greatest-mono}
 
 -- x put into a list
 insert-nil : (x : ℕ) → insert x [] ≡ x ∷ []
@@ -117,11 +118,7 @@ next [] i = omega arith
 next (x ∷ xs) i = insert-falls x (descending xs) (λ j. next xs j) i
 
 pub descending-falls : (xs : List ℕ) (i j : ℕ) → i ≤ j → getD (descending xs) j 0 ≤ getD (descending xs) i 0
-descending-falls xs i j h = let e : i + (j - i) ≡ j = omega arith in rw e at (by (j - i))
-  where
-    by : (k : ℕ) → getD (descending xs) (i + k) 0 ≤ getD (descending xs) i 0
-    by zero = rw add-zero (omega arith)
-    by (suc k) = rw add-suc (omega (arith, by k, next xs (i + k)))
+descending-falls xs i j h = by-steps (λ k. getD (descending xs) k 0 ≤ getD (descending xs) i 0) i j h (omega arith) (λ k l m f. omega (arith, next xs k))
 
 -- the greatest and the next after it, one number more
 head-is : (xs : List ℕ) → greatest xs (λ x. x) ≡ getD (descending xs) 0 0
@@ -155,3 +152,24 @@ two-largest x xs =
 -- the same with one number more at the end
 pub two-largest-snoc : (xs : List ℕ) (x : ℕ) → Σ (take 2 (descending (xs ++ (x ∷ [])))) (λ y. y) ≡ max (x + greatest xs (λ y. y)) (Σ (take 2 (descending xs)) (λ y. y))
 two-largest-snoc xs x = rw (descending-perm (Permᴰ·middle x xs []), append-nil) (two-largest x xs)
+
+-- it is at least the greatest, and grows with the numbers
+pub greatest-two : (xs : List ℕ) → greatest xs (λ x. x) ≤ Σ (take 2 (descending xs)) (λ x. x)
+unfolding greatest Σ descending
+greatest-two [] = omega arith
+greatest-two (x ∷ xs) = omega (arith, two-largest x xs, greatest-two xs)
+
+pub two-mono : {A : Type 0} (xs : List A) (f g : A → ℕ) → ((x : A) → x ∈ xs → f x ≤ g x)
+    → Σ (take 2 (descending (map f xs))) (λ y. y) ≤ Σ (take 2 (descending (map g xs))) (λ y. y)
+two-mono [] f g h = omega arith
+two-mono (x ∷ xs) f g h =
+    omega (
+      arith,
+      two-largest (f x) (map f xs),
+      two-largest (g x) (map g xs),
+      h x (here refl),
+      greatest-map f xs (λ y. y),
+      greatest-map g xs (λ y. y),
+      greatest-mono xs f g (λ y m. h y (there m)),
+      two-mono xs f g (λ y m. h y (there m)),
+    )

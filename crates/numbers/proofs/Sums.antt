@@ -1,20 +1,22 @@
 -- Sums and greatest figures over a list: each law by induction on the list, its arithmetic by `omega`.
 -- What is asked of each element is asked of the members alone, as in `Lists`.
 use mathlib.Core.Path.{_≡_, refl, sym, ap, ap₂, _∙_}
-use mathlib.Core.Bool.{Bool, true, false, not, cond}
+use mathlib.Core.Bool.{Bool, true, false, not, cond, _||_}
 use mathlib.Core.List.{List, [], _∷_, _++_, map, List·Memᴰ·head as here, List·Memᴰ·tail as there, List·Permᴰ, List·Permᴰ·nil, List·Permᴰ·cons, List·Permᴰ·swap, List·Permᴰ·trans}
-use Prim.Native.Nat.{ℕ, _+_, _*_, _≤_, _<_, max}
+use Prim.Native.Nat.{ℕ, zero, suc, _+_, _*_, _≤_, _<_, max}
 use native.Mathlib.Omega.{arith}
-use lib.Dec.{leb}
+use native.Mathlib.Numerals.{add-one}
+use lib.Dec.{leb, eqb}
 use lib.IntN.{ℤ, pos, natAbs, _+ℤ_, +ℤ-idl, +ℤ-idr, +ℤ-assoc}
 use lib.Signed.{_≤ℤ_}
-use lib.ListN.{length}
-use borrow.Author.Tests.{leb-true, leb-false}
+use lib.ListN.{length, getD, take, drop, take-append-drop}
+use lib.Seq.{take-suc}
+use borrow.Author.Tests.{leb-true, leb-false, eqb-true, ne-eqb}
 use Rattle.numbers.specs.Signed.{_⁺}
-use Rattle.numbers.specs.Lists.{keep}
+use Rattle.numbers.specs.Lists.{range, keep}
 use Rattle.numbers.specs.Sums.{Σ, Σℤ, greatest}
 use Rattle.numbers.proofs.Signed.{signed, add, ⁺-add, abs-add}
-use Rattle.numbers.proofs.Lists.{_∈_, mem-keep}
+use Rattle.numbers.proofs.Lists.{_∈_, mem-range, mem-keep}
 
 -- ---- sums
 
@@ -56,7 +58,8 @@ unfolding Σ
 Σ-elem f (here e) = omega (arith, ap f e)
 Σ-elem f (there m) = omega (arith, Σ-elem f m)
 
--- over two lists in one, over one element more, over a mapped list. With `take-suc` or `range-more` in front, `Σ-snoc` is a step of a loop
+-- over two lists in one, over one element more, over a mapped list. `Σ-more` is a step of a loop over a list, and `Σ-snoc` with `upto-more`
+-- in front is one of a loop over numbers
 pub Σ-append : {A : Type 0} (xs ys : List A) (f : A → ℕ) → Σ (xs ++ ys) f ≡ Σ xs f + Σ ys f
 unfolding Σ
 Σ-append [] ys f = omega arith
@@ -65,6 +68,9 @@ unfolding Σ
 pub Σ-snoc : {A : Type 0} (xs : List A) (x : A) (f : A → ℕ) → Σ (xs ++ (x ∷ [])) f ≡ Σ xs f + f x
 unfolding Σ
 Σ-snoc xs x f = omega (arith, Σ-append xs (x ∷ []) f)
+
+pub Σ-more : {A : Type 0} (xs : List A) (i : ℕ) (d : A) (f : A → ℕ) (s v : ℕ) → i < length xs → s ≡ Σ (take i xs) f → v ≡ f (getD xs i d) → s + v ≡ Σ (take (i + 1) xs) f
+Σ-more xs i d f s v h e k = rw (add-one, take-suc xs i d h, Σ-snoc, e, k)
 
 pub Σ-map : {A B : Type 0} (g : A → B) (xs : List A) (f : B → ℕ) → Σ (map g xs) f ≡ Σ xs (λ x. f (g x))
 unfolding Σ
@@ -84,7 +90,7 @@ unfolding Σ
 Σ-perm (List·Permᴰ·swap e q) f = omega (arith, ap f e, ap f q)
 Σ-perm (List·Permᴰ·trans p q) f = Σ-perm p f ∙ Σ-perm q f
 
--- over the elements that pass a test and those that fail it: together the whole
+-- over the elements that pass a test and those that fail it: together the whole, so that over a part it is no greater
 pub Σ-split : {A : Type 0} (p : A → Bool) (xs : List A) (f : A → ℕ) → Σ (keep p xs) f + Σ (keep (λ x. not (p x)) xs) f ≡ Σ xs f
 unfolding Σ keep
 Σ-split p [] f = refl
@@ -97,6 +103,41 @@ unfolding Σ keep
 
 pub Σ-keep-le : {A : Type 0} (p : A → Bool) (xs : List A) (f : A → ℕ) → Σ (keep p xs) f ≤ Σ xs f
 Σ-keep-le p xs f = omega (arith, Σ-split p xs f)
+
+pub Σ-take-le : {A : Type 0} (n : ℕ) (xs : List A) (f : A → ℕ) → Σ (take n xs) f ≤ Σ xs f
+Σ-take-le n xs f = omega (arith, ap (λ (l : List _). Σ l f) (take-append-drop n xs), Σ-append (take n xs) (drop n xs) f)
+
+-- what fails a test adds 0; and over those that pass one of two tests the sum is at most that for each
+pub Σ-keep : {A : Type 0} (p : A → Bool) (xs : List A) (f : A → ℕ) → Σ (keep p xs) f ≡ Σ xs (λ x. cond (p x) (f x) 0)
+unfolding Σ keep
+Σ-keep p [] f = refl
+Σ-keep p (x ∷ xs) f = by (p x) (Σ-keep p xs f)
+  where
+    by : (t : Bool) → Σ (keep p xs) f ≡ Σ xs (λ y. cond (p y) (f y) 0) → Σ (cond t (x ∷ keep p xs) (keep p xs)) f ≡ cond t (f x) 0 + Σ xs (λ y. cond (p y) (f y) 0)
+    by true e = omega arith
+    by false e = omega arith
+
+pub Σ-or : {A : Type 0} (p q : A → Bool) (xs : List A) (f : A → ℕ) → Σ (keep (λ x. p x || q x) xs) f ≤ Σ (keep p xs) f + Σ (keep q xs) f
+Σ-or p q xs f = rw (Σ-keep _ xs f, Σ-keep p xs f, Σ-keep q xs f, ← Σ-add) (Σ-mono xs _ _ (λ x m. by (p x) (q x) (f x)))
+  where
+    by : (s t : Bool) (c : ℕ) → cond (s || t) c 0 ≤ cond s c 0 + cond t c 0
+    by true t c = omega arith
+    by false t c = omega arith
+
+-- the elements by their class, a number: a sum over classes is at most the sum over all
+one-class : (y c a n : ℕ) → Σ (range a n) (λ i. cond (eqb y i) c 0) ≤ c
+unfolding Σ range
+one-class y c a zero = omega arith
+one-class y c a (suc n) = by (eqb y a) refl (one-class y c (suc a) n)
+  where
+    by : (t : Bool) → eqb y a ≡ t → Σ (range (suc a) n) (λ i. cond (eqb y i) c 0) ≤ c → cond t c 0 + Σ (range (suc a) n) (λ i. cond (eqb y i) c 0) ≤ c
+    by true q h =
+        let past : (i : ℕ) → i ∈ range (suc a) n → cond (eqb y i) c 0 ≡ 0 = λ i m. rw (ne-eqb y i (λ e. omega (arith, eqb-true y a q, mem-range (suc a) n m))) in
+        omega (arith, Σ-zero (range (suc a) n) _ past)
+    by false q h = omega arith
+
+pub Σ-classes : {A : Type 0} (g : A → ℕ) (a n : ℕ) (xs : List A) (f : A → ℕ) → Σ (range a n) (λ i. Σ (keep (λ x. eqb (g x) i) xs) f) ≤ Σ xs f
+Σ-classes g a n xs f = simp Σ-keep (rw (Σ-swap (range a n) xs (λ i x. cond (eqb (g x) i) (f x) 0)) (Σ-mono xs _ f (λ x m. one-class (g x) (f x) a n)))
 
 -- ---- sums of signed numbers
 
@@ -216,7 +257,7 @@ unfolding greatest
 greatest-max [] f g = refl
 greatest-max (x ∷ xs) f g = omega (arith, greatest-max xs f g)
 
--- over two lists in one, over one element more, over a mapped list
+-- over two lists in one, over one element more, over a mapped list. `greatest-more` is a step of a loop, as `Σ-more` is
 pub greatest-append : {A : Type 0} (xs ys : List A) (f : A → ℕ) → greatest (xs ++ ys) f ≡ max (greatest xs f) (greatest ys f)
 unfolding greatest
 greatest-append [] ys f = omega arith
@@ -225,6 +266,9 @@ greatest-append (x ∷ xs) ys f = omega (arith, greatest-append xs ys f)
 pub greatest-snoc : {A : Type 0} (xs : List A) (x : A) (f : A → ℕ) → greatest (xs ++ (x ∷ [])) f ≡ max (greatest xs f) (f x)
 unfolding greatest
 greatest-snoc xs x f = omega (arith, greatest-append xs (x ∷ []) f)
+
+pub greatest-more : {A : Type 0} (xs : List A) (i : ℕ) (d : A) (f : A → ℕ) (s v : ℕ) → i < length xs → s ≡ greatest (take i xs) f → v ≡ f (getD xs i d) → max s v ≡ greatest (take (i + 1) xs) f
+greatest-more xs i d f s v h e k = rw (add-one, take-suc xs i d h, greatest-snoc, e, k)
 
 pub greatest-map : {A B : Type 0} (g : A → B) (xs : List A) (f : B → ℕ) → greatest (map g xs) f ≡ greatest xs (λ x. f (g x))
 unfolding greatest

@@ -1,2 +1,1 @@
 pub mod Bounds
-mod LongDivision

@@ -10,12 +10,12 @@ use lib.IntN.{ℤ, pos, negℤ, natAbs}
 use lib.Signed.{_≤ℤ_, _<ℤ_, ltZ, ltZ-no}
 use lib.ListN.{length, getD, take, drop}
 use Rattle.numbers.specs.Lists.{any, firstWhere}
+use Rattle.numbers.proofs.Tests.{neither}
 use Rattle.numbers.proofs.Signed.{signed, abs-is, one-zero, is-lt, not-lt}
 use Rattle.numbers.proofs.Lists.{first-is}
 use Rattle.methodology.specs.Account.{Account}
 use Rattle.methodology.specs.Refusals.{limit, outside, npvOutside, badAmount}
 use Rattle.validation.specs.Slices.{none, Amounts}
-use Rattle.validation.proofs.More.{neither}
 
 -- an NPV below, above and within its limits
 abbrev pub lowest : ℤ

@@ -11,12 +11,12 @@ use lib.IntN.{ℤ, pos, natAbs}
 use lib.ListN.{length, getD, take, drop}
 use borrow.Author.Tests.{ltb-false, eqb-true, not-false}
 use Rattle.numbers.specs.Lists.{any, firstWhere}
-use Rattle.numbers.proofs.Lists.{table-length, table-at, part-at, part-length, mem-at, any-false, first-before}
+use Rattle.numbers.proofs.Tests.{neither}
+use Rattle.numbers.proofs.Lists.{table-length, table-at, own-table, part-at, part-length, mem-at, any-false, first-before}
 use Rattle.methodology.specs.Account.{Opening, DayInput, Account, nobody, accountAt, accounts}
 use Rattle.methodology.specs.Refusals.{outside, badLengths, firstBadHeading, limit, npvOutside, badAmount}
 use Rattle.validation.specs.Slices.{headings, plainDay, none, Amounts, Lent}
 use Rattle.validation.specs.Rows.{Sized, Passed}
-use Rattle.validation.proofs.More.{neither, own-table}
 use Rattle.validation.proofs.Headings.{headingAt, headings-length, heading-at, headings-members, Fine, fine, all-good}
 use Rattle.validation.proofs.Amounts.{npv-limit, badAt, bad-at}
 

@@ -12,12 +12,12 @@ use lib.ListN.{length, getD, drop, drop-of-length-le}
 use lib.Seq.{drop-cons}
 use borrow.Author.Tests.{lt-ltb, le-ltb, eq-eqb, ne-eqb, ltb-false, ltb-true}
 use Rattle.numbers.specs.Lists.{any}
-use Rattle.numbers.proofs.Lists.{table-length, table-at}
+use Rattle.numbers.proofs.Tests.{neither, not-less, not-ltb}
+use Rattle.numbers.proofs.Lists.{table-length, table-at, own-table, any-map}
 use Rattle.methodology.specs.declared.Heading.{Heading}
 use Rattle.methodology.specs.Account.{nobody, kindU}
 use Rattle.methodology.specs.Refusals.{memberOutside, notRising, numberAbove, kindUnknown, zeroAndHouseApart, firstNotZero, memberSkipped, badHeading, firstBadHeading, lastMissing}
 use Rattle.validation.specs.Slices.{headings}
-use Rattle.validation.proofs.More.{neither, not-ltb, not-less, own-table, any-map}
 
 -- the known kinds are those up to 3
 kind-unknown : (h : Heading) → kindUnknown h ≡ ltb 3 (h .kind)

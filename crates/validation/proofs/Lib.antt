@@ -1,4 +1,3 @@
-mod More
 pub mod Headings
 pub mod Amounts
 pub mod Opening

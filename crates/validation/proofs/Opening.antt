@@ -11,7 +11,7 @@ use Rattle.numbers.proofs.Lists.{any-false, mem-at}
 use Rattle.methodology.specs.Account.{Opening}
 use Rattle.methodology.specs.Refusals.{outside, badOpening}
 use Rattle.validation.specs.Rows.{Opened}
-use Rattle.validation.proofs.More.{neither}
+use Rattle.numbers.proofs.Tests.{neither}
 
 -- a number that is not outside its limits
 inside : (least most x : ℕ) → outside least most x ≡ false → (least ≤ x) × (x ≤ most)

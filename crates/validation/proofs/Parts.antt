@@ -2,22 +2,14 @@
 -- An element of a part is one of the whole, further on by the part's start, and an account's row is a part of a part.
 use mathlib.Core.Path.{_≡_, sym, _∙_}
 use mathlib.Core.List.{List}
-use Prim.Native.Nat.{ℕ, _+_, _*_, _≤_, _<_}
+use Prim.Native.Nat.{ℕ, _+_, _*_, _≤_}
 use native.Mathlib.Nat.{mul-le-mul-right}
 use native.Mathlib.Omega.{arith}
 use lib.IntN.{ℤ, pos}
 use lib.ListN.{length, take, drop}
-use Rattle.numbers.proofs.Lists.{part-length, part-at, part-part}
+use Rattle.numbers.proofs.Lists.{part-length, part-at, part-index, part-part}
 use Rattle.methodology.specs.Account.{Account}
 use Rattle.validation.specs.Slices.{none, Amounts, Lent, Within}
-
--- an index of a part is one of the whole, further on
-index : {A : Type 0} (l : List A) (a c i : ℕ) → a + c ≤ length l → i < length (take c (drop a l)) → (i < c) × (a + i < length l)
-index l a c i h b = omega (arith, part-length a c l h)
-
--- the rows of c accounts from a on, w NPVs an account, out of those of n accounts
-rows-end : (w a c n : ℕ) → a + c ≤ n → a * w + c * w ≤ n * w
-rows-end w a c n h = omega (arith, mul-le-mul-right w h)
 
 -- the limits
 pub within-part : {k : ℕ} {kinds : List ℕ} {npvs : List ℤ} {margins extras : List ℕ} → Within k kinds npvs margins extras → (a c : ℕ) → a + c ≤ length kinds
@@ -25,16 +17,16 @@ pub within-part : {k : ℕ} {kinds : List ℕ} {npvs : List ℤ} {margins extras
 within-part {k} {kinds} {npvs} {margins} {extras} all a c h =
     let w = k + 1 in
     let count : length (take c (drop a kinds)) ≡ c = part-length a c kinds h in
-    let rows : a * w + c * w ≤ length npvs = omega (arith, rows-end w a c (length kinds) h) in
+    let rows : a * w + c * w ≤ length npvs = omega (arith, mul-le-mul-right w h) in
     record {
       few = omega arith;
       npvs-long = rw count (part-length (a * w) (c * w) npvs rows);
       margins-long = part-length a c margins (omega arith) ∙ sym count;
       extras-long = part-length a c extras (omega arith) ∙ sym count;
-      kind = λ i b. let (l, g) = index kinds a c i h b in rw (part-at a c kinds i 0 l) (all .kind (a + i) g);
-      npv = λ x b. let (l, g) = index npvs (a * w) (c * w) x rows b in rw (part-at (a * w) (c * w) npvs x (pos 0) l) (all .npv (a * w + x) g);
-      margin = λ i b. let (l, g) = index kinds a c i h b in rw (part-at a c margins i 0 l) (all .margin (a + i) g);
-      extra = λ i b. let (l, g) = index kinds a c i h b in rw (part-at a c extras i 0 l, part-at a c margins i 0 l) (all .extra (a + i) g);
+      kind = λ i b. let (l, g) = part-index a c kinds i h b in rw (part-at a c kinds i 0 l) (all .kind (a + i) g);
+      npv = λ x b. let (l, g) = part-index (a * w) (c * w) npvs x rows b in rw (part-at (a * w) (c * w) npvs x (pos 0) l) (all .npv (a * w + x) g);
+      margin = λ i b. let (l, g) = part-index a c kinds i h b in rw (part-at a c margins i 0 l) (all .margin (a + i) g);
+      extra = λ i b. let (l, g) = part-index a c kinds i h b in rw (part-at a c extras i 0 l, part-at a c margins i 0 l) (all .extra (a + i) g);
     }
 
 -- the amounts
@@ -43,18 +35,18 @@ pub amounts-part : {k : ℕ} {npvs : List ℤ} {margins extras : List ℕ} {acct
 amounts-part {k} {npvs} {margins} {extras} {accts} all a c h =
     let w = k + 1 in
     let count : length (take c (drop a accts)) ≡ c = part-length a c accts h in
-    let rows : a * w + c * w ≤ length npvs = omega (arith, rows-end w a c (length accts) h) in
+    let rows : a * w + c * w ≤ length npvs = omega (arith, mul-le-mul-right w h) in
     record {
       npvs-long = rw count (part-length (a * w) (c * w) npvs rows);
       margins-long = part-length a c margins (omega arith) ∙ sym count;
       extras-long = part-length a c extras (omega arith) ∙ sym count;
       npvs-at = λ i b.
-          let (l, g) = index accts a c i h b in
+          let (l, g) = part-index a c accts i h b in
           let row : i * w + w ≤ c * w = omega (arith, mul-le-mul-right w l) in
           let from : (a + i) * w ≡ a * w + i * w = omega arith in
           rw (part-at a c accts i none l, part-part (a * w) (c * w) (i * w) w npvs row, ← from) (all .npvs-at (a + i) g);
-      margin-at = λ i b. let (l, g) = index accts a c i h b in rw (part-at a c accts i none l, part-at a c margins i 0 l) (all .margin-at (a + i) g);
-      extra-at = λ i b. let (l, g) = index accts a c i h b in rw (part-at a c accts i none l, part-at a c extras i 0 l) (all .extra-at (a + i) g);
+      margin-at = λ i b. let (l, g) = part-index a c accts i h b in rw (part-at a c accts i none l, part-at a c margins i 0 l) (all .margin-at (a + i) g);
+      extra-at = λ i b. let (l, g) = part-index a c accts i h b in rw (part-at a c accts i none l, part-at a c extras i 0 l) (all .extra-at (a + i) g);
     }
 
 -- the accounts
@@ -65,5 +57,5 @@ lent-part {kinds} {accts} all a c h =
     record {
       amounts = amounts-part (all .amounts) a c e;
       kinds-long = part-length a c kinds h ∙ sym (part-length a c accts e);
-      kind-at = λ i b. let (l, g) = index accts a c i e b in rw (part-at a c accts i none l, part-at a c kinds i 0 l) (all .kind-at (a + i) g);
+      kind-at = λ i b. let (l, g) = part-index a c accts i e b in rw (part-at a c accts i none l, part-at a c kinds i 0 l) (all .kind-at (a + i) g);
     }

@@ -6,25 +6,25 @@ use native.Mathlib.Omega.{arith}
 use lib.ListN.{getD, take, length-take, length-drop}
 use borrow.Author.Needs.{needs}
 use Rattle.numbers.specs.Sums.{Σ}
+use Rattle.numbers.proofs.Filling.{FilledRows, filled-rows-none, filled-rows-more, filled-rows-all}
+use Rattle.numbers.proofs.Sums.{Σ-more}
 use Rattle.methodology.specs.Day.{scale}
 use Rattle.methodology.specs.Contribution.{charge, funded, three}
 use Rattle.quotient.specs.Ranges.{Charge, greatestTotal}
 use Rattle.quotient.proofs.Bounds.{raw-le}
-use Rattle.fund.proofs.More.{Σ-more}
-use Rattle.fund.proofs.Stretches.{Filled, filled-none, filled-more, filled-all}
 use Rattle.fund.proofs.write_contributions.Statement.{statement}
 use Rattle.fund.proofs.write_contributions.Tie as tie
 
 abbrev Inv-loop : tie.InvT-loop
 Inv-loop n m d out₀ sums total₀ i₀ out total i =
-    Filled 3 (λ s. three (charge m s d)) sums n out₀ i out × (total ≤ i * (2 * greatestTotal)) × (total ≡ Σ (take i sums) (λ s. funded (charge m s d)))
+    FilledRows 3 (λ s. three (charge m s d)) sums n out₀ i out × (total ≤ i * (2 * greatestTotal)) × (total ≡ Σ (take i sums) (λ s. funded (charge m s d)))
 
 abbrev μ-loop : tie.MeasureT-loop
 μ-loop n m d out₀ sums total₀ i₀ out total i = n - i
 
 loop-holds : tie.Need-loop-holds Inv-loop μ-loop
 unfolding three Σ
-loop-holds c = (filled-none 3 _ (λ s. refl) (search needs) (c .before .pre .0 .1), omega arith, refl)
+loop-holds c = (filled-rows-none 3 _ (λ s. refl) (search needs) (c .before .pre .0 .1), omega arith, refl)
 
 mul-raw : tie.Need-mul-raw Inv-loop μ-loop
 mul-raw c = search needs
@@ -82,7 +82,7 @@ loop-again c =
     let r = c .before .before .before .before .raw in
     let l = c .before .before .before .before .before .before in
     let v = l .loop .inv in (
-      filled-more 3 _ (λ s. refl) (search needs) (search needs) (v .0) (w .kept .1 .0) (rw (r .ensures) at (w .ensures .1)),
+      filled-rows-more 3 _ (λ s. refl) (search needs) 0 (search needs) (v .0) (w .kept .1 .0) (rw (r .ensures) at (w .ensures .1)),
       omega (arith, funded-most (c .before .before), v .1),
       Σ-more (l .before .before .args .t1) (l .loop .i) 0 _ _ _ (search needs) (v .2) (w .ensures .0 ∙ ap funded (r .ensures)),
     )
@@ -96,7 +96,7 @@ returns c =
     let l = c .before in
     let s = l .before .before in
     let all : l .loop .i ≡ s .args .n = omega arith in
-    (rw all at (l .loop .inv .2), filled-all 3 _ (λ s. refl) (search needs) (s .pre .0 .1) (search needs) (l .loop .inv .0))
+    (rw all at (l .loop .inv .2), filled-rows-all 3 _ (λ s. refl) (search needs) (s .pre .0 .1) (search needs) (l .loop .inv .0))
 
 pub write-contributions-spec : {M : Type 1} → statement M
 write-contributions-spec =

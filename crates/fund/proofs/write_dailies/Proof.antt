@@ -4,20 +4,20 @@ use Prim.Native.Nat.{_-_}
 use native.Mathlib.Omega.{arith}
 use lib.ListN.{length-take, length-drop}
 use borrow.Author.Needs.{needs}
+use Rattle.numbers.proofs.Filling.{FilledRows, filled-rows-none, filled-rows-more, filled-rows-all}
 use Rattle.methodology.specs.Day.{five}
-use Rattle.fund.proofs.Stretches.{Filled, filled-none, filled-more, filled-all}
 use Rattle.fund.proofs.write_dailies.Statement.{statement}
 use Rattle.fund.proofs.write_dailies.Tie as tie
 
 abbrev Inv-loop : tie.InvT-loop
-Inv-loop n max total out₀ losses i₀ out i = Filled 5 (λ e. five e max total) losses n out₀ i out
+Inv-loop n max total out₀ losses i₀ out i = FilledRows 5 (λ e. five e max total) losses n out₀ i out
 
 abbrev μ-loop : tie.MeasureT-loop
 μ-loop n max total out₀ losses i₀ out i = n - i
 
 loop-holds : tie.Need-loop-holds Inv-loop μ-loop
 unfolding five
-loop-holds c = filled-none 5 _ (λ e. refl) (search needs) (c .before .pre .0 .1)
+loop-holds c = filled-rows-none 5 _ (λ e. refl) (search needs) (c .before .pre .0 .1)
 
 mul-write-five : tie.Need-mul-write-five Inv-loop μ-loop
 mul-write-five c = search needs
@@ -57,7 +57,7 @@ unfolding five
 loop-again c =
     let w = c .before .before .write-five in
     let l = c .before .before .before .before .before in
-    filled-more 5 _ (λ e. refl) (search needs) (search needs) (l .loop .inv) (w .kept .1 .1 .1 .0) (w .ensures)
+    filled-rows-more 5 _ (λ e. refl) (search needs) 0 (search needs) (l .loop .inv) (w .kept .1 .1 .1 .0) (w .ensures)
 
 same-length : tie.Need-same-length Inv-loop μ-loop
 same-length c = search needs
@@ -66,7 +66,7 @@ returns : tie.Need-returns Inv-loop μ-loop
 unfolding five
 returns c =
     let l = c .before in
-    filled-all 5 _ (λ e. refl) (search needs) (l .before .before .pre .0 .1) (search needs) (l .loop .inv)
+    filled-rows-all 5 _ (λ e. refl) (search needs) (l .before .before .pre .0 .1) (search needs) (l .loop .inv)
 
 pub write-dailies-spec : {M : Type 1} → statement M
 write-dailies-spec =

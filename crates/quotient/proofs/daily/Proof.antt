@@ -4,7 +4,7 @@ use Prim.Native.Nat.{ℕ, _+_, _*_, _/_, _<_, _≤_}
 use native.Mathlib.Omega.{arith}
 use Rattle.numbers.specs.Rounding.{roundDiv}
 use Rattle.numbers.proofs.Rounding.{round-times, rem-lt}
-use Rattle.quotient.proofs.LongDivision.{part-le}
+use Rattle.numbers.proofs.Division.{part-le}
 use Rattle.quotient.proofs.daily.Statement.{statement}
 use Rattle.quotient.proofs.daily.Tie as tie
 

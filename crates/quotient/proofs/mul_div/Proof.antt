@@ -1,13 +1,18 @@
 -- `mul_div` meets its contract: each turn starts from the one before it, and before the first no digit of b is left.
 use mathlib.Core.Path.{_≡_, sym}
-use Prim.Native.Nat.{_/_}
+use Prim.Native.Nat.{ℕ, _/_}
 use native.Mathlib.Omega.{arith}
 use native.Mathlib.Nat.{mul-zero, zero-div, zero-mod}
 use borrow.Author.Needs.{needs}
-use Rattle.quotient.specs.Ranges.{base}
-use Rattle.quotient.proofs.LongDivision.{shorter}
+use Rattle.numbers.proofs.Division.{prefix-le}
+use Rattle.quotient.specs.Ranges.{Division, base}
 use Rattle.quotient.proofs.mul_div.Statement.{statement}
 use Rattle.quotient.proofs.mul_div.Tie as tie
+
+-- what fits for b fits for b without its last digit
+shorter : {a b c : ℕ} → Division a b c → Division a (b / base) c
+shorter {a} {b} {c} h =
+    record { positive = h .positive; digit = h .digit; result = omega (arith, prefix-le a b c base (h .positive)) }
 
 turn-requires : tie.Need-turn-requires
 turn-requires c κs =

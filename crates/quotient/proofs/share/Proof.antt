@@ -1,8 +1,8 @@
 -- `share` meets its contract: it is a quotient of a product, and at most the scale.
 use native.Mathlib.Omega.{arith}
 use borrow.Author.Needs.{needs}
+use Rattle.numbers.proofs.Division.{part-le}
 use Rattle.methodology.specs.Day.{scale}
-use Rattle.quotient.proofs.LongDivision.{part-le}
 use Rattle.quotient.proofs.share.Statement.{statement}
 use Rattle.quotient.proofs.share.Tie as tie
 

@@ -3,8 +3,8 @@ use mathlib.Core.Path.{_≡_}
 use Prim.Native.Nat.{_+_, _*_, _/_, _%_, _^_, _<_}
 use native.Mathlib.Omega.{arith}
 use borrow.Author.Needs.{needs}
+use Rattle.numbers.proofs.Division.{turn-quot, turn-rem, turn-lt}
 use Rattle.quotient.specs.Ranges.{base}
-use Rattle.quotient.proofs.LongDivision.{turn-quot, turn-rem, turn-lt}
 use Rattle.quotient.proofs.turn.Statement.{statement}
 use Rattle.quotient.proofs.turn.Tie as tie
 

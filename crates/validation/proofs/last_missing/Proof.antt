@@ -7,8 +7,7 @@ use borrow.Author.Needs.{needs}
 use borrow.Author.Tests.{eq-eqb, ne-eqb}
 use lib.Dec.{eqb}
 use lib.ListN.{length, getD}
-use Rattle.numbers.proofs.Lists.{mem-at, some-any}
-use Rattle.validation.proofs.More.{any-none}
+use Rattle.numbers.proofs.Lists.{mem-at, some-any, any-none}
 use Rattle.validation.proofs.Headings.{missing-is}
 use Rattle.validation.proofs.last_missing.Statement.{statement}
 use Rattle.validation.proofs.last_missing.Tie as tie

@@ -11,9 +11,8 @@ use mir.Syntax.{w64}
 use mir.Val.{SFits}
 use Rattle.numbers.specs.Lists.{any}
 use Rattle.numbers.proofs.Signed.{lit-fits, lt-held, lt-failed}
-use Rattle.numbers.proofs.Lists.{mem-at, some-any}
+use Rattle.numbers.proofs.Lists.{mem-at, some-any, any-none}
 use Rattle.methodology.specs.Refusals.{npvOutside}
-use Rattle.validation.proofs.More.{any-none}
 use Rattle.validation.proofs.Amounts.{lowest, highest, npv-below, npv-above, npv-inside}
 use Rattle.validation.proofs.npv_outside.Statement.{statement}
 use Rattle.validation.proofs.npv_outside.Tie as tie

@@ -1,7 +1,6 @@
 -- `max_eul` meets its contract: the pass of `MaxPass`.
 use borrow.Author.Needs.{needs}
 use Prim.Native.Nat.{_-_}
-use native.Mathlib.Omega.{arith}
 use lib.ListN.{length}
 use Rattle.exposure.proofs.MaxPass.{MaxPass, max-none, max-more, max-all, end-le, rows-shape, row-near}
 use Rattle.exposure.proofs.day.max_eul.Statement.{statement}

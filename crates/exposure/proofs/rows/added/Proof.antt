@@ -5,19 +5,20 @@ use native.Mathlib.Omega.{arith}
 use lib.IntN.{pos, _+ℤ_}
 use lib.ListN.{getD}
 use Rattle.numbers.proofs.Signed.{back}
-use Rattle.exposure.proofs.Tables.{Filled, filled-none, filled-more, filled-all, near-back, sum-fits}
+use Rattle.numbers.proofs.Filling.{Filled, filled-none, filled-more, filled-all}
+use Rattle.exposure.proofs.Tables.{near-back, sum-fits}
 use Rattle.exposure.specs.Rows.{plus}
 use Rattle.exposure.proofs.rows.added.Statement.{statement}
 use Rattle.exposure.proofs.rows.added.Tie as tie
 
 abbrev Inv-loop : tie.InvT-loop
-Inv-loop b sums₀ j₀ sums j = Filled (λ x. getD sums₀ x (pos 0) +ℤ getD b x (pos 0)) sums₀ sums j
+Inv-loop b sums₀ j₀ sums j = Filled 16 (λ x. getD sums₀ x (pos 0) +ℤ getD b x (pos 0)) (pos 0) sums₀ j sums
 
 abbrev μ-loop : tie.MeasureT-loop
 μ-loop b sums₀ j₀ sums j = 16 - j
 
 loop-holds : tie.Need-loop-holds Inv-loop μ-loop
-loop-holds c = filled-none _ _ (c .pre .first-long)
+loop-holds c = filled-none 16 _ (pos 0) _ (c .pre .first-long)
 
 mul-sums : tie.Need-mul-sums Inv-loop μ-loop
 mul-sums c = search needs
@@ -53,13 +54,13 @@ loop-again : tie.Need-loop-again Inv-loop μ-loop
 loop-again c =
     let s = c .before .before .before .before in
     let l = c .before .before .before .loop in
-    filled-more _ _ (search needs)
+    filled-more 16 _ (pos 0) _ (search needs)
     (rw (l .inv .rest (l .j) (omega arith), near-back (s .pre .first) (l .j), near-back (s .pre .second) (l .j)) (back (sum-fits (s .pre .first) (s .pre .second) (l .j))))
     (l .inv)
 
 returns : tie.Need-returns Inv-loop μ-loop
 unfolding plus
-returns c = filled-all _ _ (c .loop-test .left) (c .before .loop .inv)
+returns c = filled-all 16 _ (pos 0) _ (c .loop-test .left) (c .before .loop .inv)
 
 pub added-spec : {M : Type 1} → statement M
 added-spec =

@@ -1,23 +1,26 @@
--- `rows_greatest` meets its contract: the scan of `Greatest`, row by row.
+-- `rows_greatest` meets its contract. The invariant: `most` is the greatest of the rows before g.
 use borrow.Author.Needs.{needs}
-use mathlib.Core.Path.{_∙_, ap}
+use mathlib.Core.Path.{_≡_, refl, _∙_}
 use mathlib.Core.List.{[]}
-use Prim.Native.Nat.{_-_, max}
+use Prim.Native.Nat.{_-_}
 use native.Mathlib.Omega.{arith}
+use lib.ListN.{take}
+use lib.Seq.{take-all}
 use Rattle.numbers.specs.Signed.{_⁺}
 use Rattle.numbers.specs.Sums.{greatest}
-use Rattle.exposure.proofs.Greatest.{Scan, scan-none, scan-more, scan-all}
+use Rattle.numbers.proofs.Sums.{greatest-more}
 use Rattle.exposure.proofs.rows.rows_greatest.Statement.{statement}
 use Rattle.exposure.proofs.rows.rows_greatest.Tie as tie
 
 abbrev Inv-loop : tie.InvT-loop
-Inv-loop rows most₀ g₀ most g = Scan (λ row. greatest row (λ z. z ⁺)) rows g most
+Inv-loop rows most₀ g₀ most g = most ≡ greatest (take g rows) (λ row. greatest row (λ z. z ⁺))
 
 abbrev μ-loop : tie.MeasureT-loop
 μ-loop rows most₀ g₀ most g = 32 - g
 
 loop-holds : tie.Need-loop-holds Inv-loop μ-loop
-loop-holds c = scan-none _ _
+unfolding greatest
+loop-holds c = refl
 
 mul-row : tie.Need-mul-row Inv-loop μ-loop
 mul-row c = search needs
@@ -41,10 +44,13 @@ loop-again : tie.Need-loop-again Inv-loop μ-loop
 loop-again c =
     let s = c .before .before .before .before .before in
     let l = c .before .before .before .before .loop in
-    scan-more _ _ [] (omega (arith, s .pre .tall)) (c .greater .ensures ∙ ap (max (l .most)) (c .before .row-greatest .ensures)) (l .inv)
+    c .greater .ensures ∙ greatest-more (s .args .t1) (l .g) [] _ _ _ (omega (arith, s .pre .tall)) (l .inv) (c .before .row-greatest .ensures)
 
 returns : tie.Need-returns Inv-loop μ-loop
-returns c = scan-all _ _ (omega (arith, c .before .before .pre .tall)) (c .before .loop .inv)
+returns c =
+    let s = c .before .before in
+    let l = c .before .loop in
+    rw (take-all (l .g) (s .args .t1) (omega (arith, s .pre .tall))) at (l .inv)
 
 pub rows-greatest-spec : {M : Type 1} → statement M
 rows-greatest-spec =

@@ -1,13 +1,13 @@
--- One turn of the long division of a · b by c, in digits of b to the base B. The remainder so far moves up by one digit, the next digit's
--- product joins it, and c divides the two together.
+-- The quotient of a product a · b by c: one turn of long division, in digits of b to the base B, and two bounds. In a turn the remainder so
+-- far moves up by one digit, the next digit's product joins it, and c divides the two together.
 use mathlib.Core.Path.{_≡_, sym, ap, _∙_}
 use Prim.Native.Nat.{ℕ, _+_, _*_, _/_, _%_, _<_, _≤_}
 use native.Mathlib.Omega.{arith}
 use native.Mathlib.Nat.{le-trans, le-of-lt, mul-le-mul-left, mul-le-mul-right, div-add-mod', mod-lt, div-le-self, div-mul-le-self, le-div-iff-mul-le, div-le-of-le-mul}
 use lib.Arith.{digits-div, digits-mod}
 use Rattle.numbers.proofs.Rounding.{divided, rem-lt}
-use Rattle.quotient.specs.Ranges.{Division, base}
 
+-- the turn: its quotient and its remainder are those of a · b, and what it divides is below n
 module _ (a b c B : ℕ) (hc : 0 < c) (q r : ℕ) (hq : q ≡ a * (b / B) / c) (hr : r ≡ a * (b / B) % c) where
   abbrev next : ℕ
   next = r * B + a * (b % B)
@@ -26,14 +26,10 @@ module _ (a b c B : ℕ) (hc : 0 < c) (q r : ℕ) (hq : q ≡ a * (b / B) / c) (
   turn-lt n hB h =
       omega (arith, mul-le-mul-right B (rem-lt (a * (b / B)) c hc q r hq hr), mul-le-mul-left a (le-of-lt (mod-lt b hB)))
 
--- what fits for b fits for b without its last digit
-prefix-le : (a b c B : ℕ) → 0 < c → a * (b / B) / c ≤ a * b / c
+-- the quotient for b without its last digit is no greater
+pub prefix-le : (a b c B : ℕ) → 0 < c → a * (b / B) / c ≤ a * b / c
 prefix-le a b c B hc =
     le-div-iff-mul-le hc .1 (le-trans (div-mul-le-self (a * (b / B)) c) (mul-le-mul-left a (div-le-self b B)))
-
-pub shorter : {a b c : ℕ} → Division a b c → Division a (b / base) c
-shorter {a} {b} {c} h =
-    record { positive = h .positive; digit = h .digit; result = omega (arith, prefix-le a b c base (h .positive)) }
 
 -- a part of b is at most b
 pub part-le : (a b c : ℕ) → a ≤ c → a * b / c ≤ b
