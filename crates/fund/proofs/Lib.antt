@@ -1,2 +1,4 @@
 pub mod Dailies
 pub mod Contributions
+mod Charges
+pub mod Cover

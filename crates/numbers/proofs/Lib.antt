@@ -7,4 +7,5 @@ pub mod Sums
 pub mod Sorting
 pub mod Fractions
 pub mod Rounding
+pub mod RoundedUp
 pub mod Division

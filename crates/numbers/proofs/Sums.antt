@@ -53,6 +53,9 @@ pub Σ-zero : {A : Type 0} (xs : List A) (f : A → ℕ) → ((x : A) → x ∈ 
 pub Σ-bound : {A : Type 0} (xs : List A) (f : A → ℕ) (c : ℕ) → ((x : A) → x ∈ xs → f x ≤ c) → Σ xs f ≤ length xs * c
 Σ-bound xs f c h = omega (arith, Σ-mono xs f (λ x. c) h, Σ-const xs c)
 
+pub Σ-least : {A : Type 0} (xs : List A) (f : A → ℕ) (c : ℕ) → ((x : A) → x ∈ xs → c ≤ f x) → length xs * c ≤ Σ xs f
+Σ-least xs f c h = omega (arith, Σ-mono xs (λ x. c) f h, Σ-const xs c)
+
 pub Σ-elem : {A : Type 0} {x : A} {xs : List A} (f : A → ℕ) → x ∈ xs → f x ≤ Σ xs f
 unfolding Σ
 Σ-elem f (here e) = omega (arith, ap f e)
