@@ -1,15 +1,15 @@
 -- One account more: what each kind does to the tally, and to the member's EUL over whatever follows. Only one part of it moves.
 use mathlib.Core.Path.{_≡_, refl, sym, ap, subst, _∙_}
-use mathlib.Core.Bool.{Bool, true, false, _||_}
+use mathlib.Core.Bool.{Bool, true, false, _||_, cond}
 use mathlib.Core.List.{List, [], _∷_, map}
-use Prim.Native.Nat.{ℕ, _+_, _*_, _/_, _≤_, _<_, max}
+use Prim.Native.Nat.{ℕ, _+_, _-_, _*_, _/_, _≤_, _<_, min, max}
 use native.Mathlib.Decide.{ℕ-discrete}
 use native.Mathlib.Nat.{add-assoc}
 use native.Mathlib.Omega.{arith}
-use lib.Dec.{leb, eqb}
+use lib.Dec.{leb, ltb, eqb}
 use lib.IntN.{ℤ, pos, natAbs, _+ℤ_, +ℤ-assoc, +ℤ-idr}
 use lib.ListN.{take}
-use borrow.Author.Tests.{leb-true, leb-false, ne-eqb}
+use borrow.Author.Tests.{leb-true, leb-false, ltb-true, ltb-false, ne-eqb}
 use mir.Syntax.{w64}
 use mir.Val.{SFits}
 use Rattle.numbers.specs.Signed.{_⁺}
@@ -31,6 +31,10 @@ house-fits {t} s = fits-abs (t .house) (omega arith)
 
 pub gain-le : (e : ℤ) → natAbs e ≤ 2 * limit → e ⁺ ≤ 2 * limit
 gain-le e h = omega (arith, ⁺-abs e)
+
+pub part-le : (f : Bool) (g : ℕ) → cond f g 0 ≤ g
+part-le true g = omega arith
+part-le false g = omega arith
 
 -- the two largest of kind R, with g in its place
 top : (f s g l w : ℕ) → s ≤ f → f < g → max (g + f) (max (g + l) w) ≡ max (f + s) (max (f + max g l) (max (g + l) w))
@@ -90,7 +94,7 @@ module _ (t : Tally) (e : ℤ) (s : Small t) (b : natAbs e ≤ 2 * limit) where
   two-or-three k h h₀ h₁ (yes p) = rw p
   two-or-three k h h₀ h₁ (no n) = let p : k ≡ kindU = omega arith in rw p
 
-  pub other : (k : ℕ) → k ≤ kindU → (k ≡ kindH → ⊥) → (k ≡ kindR → ⊥) → Counted t k e with-other
+  other : (k : ℕ) → k ≤ kindU → (k ≡ kindH → ⊥) → (k ≡ kindR → ⊥) → Counted t k e with-other
   other k h h₀ h₁ =
       record {
         held = λ n g. record { all = omega (arith, g .all, gain-le e b); apart = omega (arith, g .apart); order = g .order };
@@ -116,19 +120,62 @@ module _ (t : Tally) (e : ℤ) (s : Small t) (b : natAbs e ≤ 2 * limit) where
       rw (keep-cons-skip isHouse a rest (rw q), keep-cons isClient a rest (rw q), keep-cons isR a rest (rw q), keep-cons-skip isAorU a rest (rw q), r, two-largest (e ⁺) rs)
       (cc (add-assoc (t .clients) (e ⁺) (Σ (keep isClient rest) (λ x. eul x ⁺)), h (greatest rs (λ x. x)) (Σ (take 2 (descending rs)) (λ x. x))))
 
-  pub first : t .first < e ⁺ → Counted t kindR e (ranked (e ⁺) (t .first))
+  first : t .first < e ⁺ → Counted t kindR e (ranked (e ⁺) (t .first))
   first h =
       record {
         held = λ n g. record { all = omega (arith, g .all, gain-le e b); apart = omega (arith, g .apart, g .order); order = omega arith };
         over = over-R (e ⁺) (t .first) (λ l w. top (t .first) (t .second) (e ⁺) l w (s .order) h);
       }
 
-  pub second : e ⁺ ≤ t .first → Counted t kindR e (ranked (t .first) (max (t .second) (e ⁺)))
+  second : e ⁺ ≤ t .first → Counted t kindR e (ranked (t .first) (max (t .second) (e ⁺)))
   second h =
       record {
         held = λ n g. record { all = omega (arith, g .all, gain-le e b); apart = omega (arith, g .apart); order = omega (arith, g .order) };
         over = over-R (t .first) (max (t .second) (e ⁺)) (λ l w. below (t .first) (t .second) (e ⁺) l w (s .order) h);
       }
+
+  -- any client, where r is its positive EUL if it is of kind R, else 0
+  abbrev with-client : (r : ℕ) → Tally
+  with-client r =
+      record {
+        house = t .house;
+        clients = t .clients + e ⁺;
+        first = max (t .first) r;
+        second = max (t .second) (min (t .first) r);
+        others = t .others + (e ⁺ - r);
+      }
+
+  client-R : (f : Bool) → ltb (t .first) (e ⁺) ≡ f → Counted t kindR e (with-client (e ⁺))
+  client-R true q =
+      let h = ltb-true (t .first) (e ⁺) q in
+      let m₁ : max (t .first) (e ⁺) ≡ e ⁺ = omega arith in
+      let m₂ : max (t .second) (min (t .first) (e ⁺)) ≡ t .first = omega (arith, s .order) in
+      let m₃ : t .others + (e ⁺ - e ⁺) ≡ t .others = omega arith in
+      rw (m₁, m₂, m₃) (first h)
+  client-R false q =
+      let h = ltb-false (t .first) (e ⁺) q in
+      let m₁ : max (t .first) (e ⁺) ≡ t .first = omega arith in
+      let m₂ : min (t .first) (e ⁺) ≡ e ⁺ = omega arith in
+      let m₃ : t .others + (e ⁺ - e ⁺) ≡ t .others = omega arith in
+      rw (m₁, m₂, m₃) (second h)
+
+  client-other : (k : ℕ) → k ≤ kindU → (k ≡ kindH → ⊥) → (k ≡ kindR → ⊥) → Counted t k e (with-client 0)
+  client-other k h h₀ h₁ =
+      let m₁ : max (t .first) 0 ≡ t .first = omega arith in
+      let m₂ : max (t .second) (min (t .first) 0) ≡ t .second = omega arith in
+      let m₃ : e ⁺ - 0 ≡ e ⁺ = omega arith in
+      rw (m₁, m₂, m₃) (other k h h₀ h₁)
+
+  pub client : (k : ℕ) → k ≤ kindU → (k ≡ kindH → ⊥) → (r : ℕ) → r ≡ cond (eqb k kindR) (e ⁺) 0 → Counted t k e (with-client r)
+  client k h h₀ r q = by (ℕ-discrete k kindR)
+    where
+      by : Dec (k ≡ kindR) → Counted t k e (with-client r)
+      by (yes p) =
+          let z : r ≡ e ⁺ = q ∙ rw p in
+          rw (p, z) (client-R (ltb (t .first) (e ⁺)) refl)
+      by (no n) =
+          let z : r ≡ 0 = q ∙ rw (ne-eqb k kindR n) in
+          rw z (client-other k h h₀ n)
 
 -- another name for the kind
 pub at-kind : {t r : Tally} {e : ℤ} {k m : ℕ} → k ≡ m → Counted t m e r → Counted t k e r

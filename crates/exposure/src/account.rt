@@ -1,6 +1,6 @@
 // An account's decrease and EUL.
 ghost use mathlib.Core.Path.{_≡_};
-ghost use Prim.Native.Nat.{_-_, _*_, _≤_, _<_, max};
+ghost use Prim.Native.Nat.{_-_, _*_, _≤_, _<_, min, max};
 ghost use lib.IntN.{natAbs, _-ℤ_};
 ghost use lib.ListN.{length};
 ghost use Rattle.numbers.specs.Signed.{_⁺};
@@ -14,6 +14,13 @@ pub fn greater(a: u64, b: u64) -> u64
     ensures { λ r. ⌜ r ≡ max a b ⌝ }
 {
     if a < b { b } else { a }
+}
+
+// The lesser of two.
+pub fn lesser(a: u64, b: u64) -> u64
+    ensures { λ r. ⌜ r ≡ min a b ⌝ }
+{
+    if a < b { a } else { b }
 }
 
 // Base minus stress, or 0 where that is negative.

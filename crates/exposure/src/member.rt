@@ -2,12 +2,15 @@
 use crate::account::eul;
 use crate::account::fall;
 use crate::account::greater;
+use crate::account::lesser;
 ghost use mathlib.Core.Path.{_≡_};
+ghost use mathlib.Core.Bool.{cond};
 ghost use mathlib.Core.List.{[]};
 ghost use Prim.Native.Nat.{_*_, _≤_};
+ghost use lib.Dec.{eqb};
 ghost use lib.IntN.{natAbs};
 ghost use Rattle.numbers.specs.Signed.{_⁺};
-ghost use Rattle.methodology.specs.Account.{kindU};
+ghost use Rattle.methodology.specs.Account.{kindR, kindU};
 ghost use Rattle.methodology.specs.Refusals.{limit};
 ghost use Rattle.validation.specs.Slices.{Within};
 ghost use Rattle.exposure.specs.Tally.{Small, Counted, Ended};
@@ -18,6 +21,13 @@ pub fn gain(eul: i64) -> u64
     ensures { λ r. ⌜ r ≡ eul ⁺ ⌝ }
 {
     if 0 < eul { eul as u64 } else { 0 }
+}
+
+// A client's positive EUL where its kind is R, else 0.
+fn only_of_r(kind: u64, g: u64) -> u64
+    ensures { λ r. ⌜ r ≡ cond (eqb kind kindR) g 0 ⌝ }
+{
+    if kind == 1 { g } else { 0 }
 }
 
 // What the accounts passed so far come to: the house EUL with its sign; the positive EULs of all clients; the two largest of kind R;
@@ -31,7 +41,8 @@ pub struct Tally {
 }
 
 impl Tally {
-    // With one account more.
+    // With one account more. Clients of all kinds take one path: kinds change from account to account, and a branch on them costs more than
+    // the few operations that it would save.
     fn with(self, kind: u64, eul: i64) -> Tally
         requires { ⌜ Small self × (kind ≤ kindU) × (natAbs eul ≤ 2 * limit) ⌝ }
         ensures { λ r. ⌜ Counted self kind eul r ⌝ }
@@ -51,30 +62,13 @@ impl Tally {
             };
         }
         let g = gain(eul);
-        if kind != 1 {
-            return Tally {
-                house,
-                clients: clients + g,
-                first,
-                second,
-                others: others + g,
-            };
-        }
-        if first < g {
-            return Tally {
-                house,
-                clients: clients + g,
-                first: g,
-                second: first,
-                others,
-            };
-        }
+        let r = only_of_r(kind, g);
         Tally {
             house,
             clients: clients + g,
-            first,
-            second: greater(second, g),
-            others,
+            first: greater(first, r),
+            second: greater(second, lesser(first, r)),
+            others: others + (g - r),
         }
     }
 

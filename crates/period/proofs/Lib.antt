@@ -1,0 +1,2 @@
+mod Openings
+mod Replies
