@@ -12,3 +12,4 @@ mod Between
 mod LossPass
 mod MaxPass
 pub mod Admitted
+pub mod Found

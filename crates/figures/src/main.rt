@@ -1,6 +1,8 @@
-// Document 01's figures 1 to 10, run as days through the parts of the engine. What it prints is held to the stored output: for each figure
+// Document 01's figures 1 to 10, run as days of a period. What it prints is held to the stored output: for each figure
 // its number, T and Max EUL, then each member's five numbers; for 9 and 10 then each member's raw, funded and unfunded contribution.
 use libc::STDOUT_FILENO;
+use period::Outcome;
+use period::Period;
 ghost use mathlib.Core.Path.{_≡_};
 ghost use Prim.Native.Nat.{ℕ, _*_, _≤_, _<_};
 ghost use lib.ListN.{length, getD};
@@ -22,27 +24,13 @@ fn put_rows(out: &[u64], width: usize)
     }
 }
 
-// Whether each group number is within its limit.
-fn groups_within(groups: &[u64]) -> bool
-    ensures { λ r. ⌜ (r ≡ true → (i : ℕ) → i < length (now (groups .entry)) → getD (now (groups .entry)) i 0 ≤ 32) ⌝ }
-{
-    let mut i: usize = 0;
-    while i < groups.len() {
-        if 32 < groups[i] {
-            return false;
-        }
-        i += 1;
-    }
-    true
-}
-
-// T and Max EUL of a day, both 0 where a row of the refusal table is met.
+// T and Max EUL of a day, both 0 where the day is refused.
 struct Found {
     total: u64,
     top: u64,
 }
 
-// A day's figures, written to out where no row is met: the tests leave what the parts of the engine ask for.
+// The figures of day 1 of a period, written to out.
 fn size(
     groups: &[u64],
     members: &[u64],
@@ -51,59 +39,20 @@ fn size(
     npvs: &[i64],
     margins: &[u64],
     extras: &[u64],
-    k: usize,
+    k: u64,
     out: &mut [u64],
 ) -> Found {
-    let n = groups.len();
-    let count = members.len();
-    if n > 32 {
-        return Found { total: 0, top: 0 };
+    let fresh = Period::fresh();
+    let opened = fresh.opening(groups.len() as u64, k, groups);
+    let open = opened.period;
+    let sized = open.day(1, members, numbers, kinds, npvs, margins, extras, out);
+    let outcome = sized.outcome;
+    match outcome {
+        Outcome::Opened => Found { total: 0, top: 0 },
+        Outcome::Sized(total, top) => Found { total, top },
+        Outcome::Refused(_) => Found { total: 0, top: 0 },
+        Outcome::RefusedAt(_, _) => Found { total: 0, top: 0 },
     }
-    if k > 16 {
-        return Found { total: 0, top: 0 };
-    }
-    if !groups_within(groups) {
-        return Found { total: 0, top: 0 };
-    }
-    if count < 1 {
-        return Found { total: 0, top: 0 };
-    }
-    if count > 256 {
-        return Found { total: 0, top: 0 };
-    }
-    if numbers.len() != count {
-        return Found { total: 0, top: 0 };
-    }
-    if kinds.len() != count {
-        return Found { total: 0, top: 0 };
-    }
-    if margins.len() != count {
-        return Found { total: 0, top: 0 };
-    }
-    if extras.len() != count {
-        return Found { total: 0, top: 0 };
-    }
-    if npvs.len() != count * (k + 1) {
-        return Found { total: 0, top: 0 };
-    }
-    if out.len() != 5 * n {
-        return Found { total: 0, top: 0 };
-    }
-    if validation::first_bad_heading(members, numbers, kinds, n as u64) != count {
-        return Found { total: 0, top: 0 };
-    }
-    if validation::first_bad_amount(npvs, margins, extras, k) != count {
-        return Found { total: 0, top: 0 };
-    }
-    let found = exposure::day::member_losses(members, kinds, npvs, margins, extras, n, k);
-    let total = found.total;
-    if total == 0 {
-        return Found { total: 0, top: 0 };
-    }
-    let top = exposure::day::max_eul(groups, members, kinds, npvs, margins, extras, k);
-    let each = found.each;
-    fund::write_dailies(each, n, top, total, out);
-    Found { total, top }
 }
 
 // A figure's number, then T and Max EUL and each member's five numbers.

@@ -1,12 +1,15 @@
 -- How a program fills a list: a table place by place, and a buffer row by row. Each has its start, its step and its end.
 use mathlib.Core.Path.{_≡_, refl, sym, ap, _∙_}
+use mathlib.Core.Bool.{Bool, true, false}
 use mathlib.Core.List.{List, _++_, map, flatMap, append-nil}
 use Prim.Native.Nat.{ℕ, _+_, _-_, _*_, _≤_, _<_}
 use native.Mathlib.Omega.{arith}
 use native.Mathlib.Nat.{zero-add}
+use lib.Dec.{ltb}
 use lib.ListN.{length, getD, take, drop, set, length-drop, length-set, drop-of-length-le}
 use lib.Seq.{take-all, getD-set-other}
 use borrow.Author.Count.{below-none}
+use borrow.Author.Tests.{ltb-true, ltb-false}
 use borrow.Rule.Slice.PartMut.{putMid, midOf, same-len-mid}
 use Rattle.numbers.specs.Lists.{range}
 use Rattle.numbers.proofs.Lists.{at-set, is-table}
@@ -32,8 +35,16 @@ module _ {A : Type 0} (n : ℕ) (f : ℕ → A) (d : A) (old : List A) where
         rest = λ x k. getD-set-other l i x v d (λ q. omega arith) ∙ p .rest x (omega arith);
       }
 
+  -- at the end all are f's: the first i, and the others where `old` has them already
+  pub filled-rest : {l : List A} {i : ℕ} → ((x : ℕ) → i ≤ x → x < n → getD old x d ≡ f x) → Filled n f d old i l → l ≡ map f (range 0 n)
+  filled-rest {l} {i} same p = is-table f 0 n d l (p .long) (λ x h. by x (ltb x i) refl h ∙ ap f (sym (zero-add x)))
+    where
+      by : (x : ℕ) (t : Bool) → ltb x i ≡ t → x < n → getD l x d ≡ f x
+      by x true q h = p .done x (ltb-true x i q)
+      by x false q h = let g = ltb-false x i q in p .rest x g ∙ same x g h
+
   pub filled-all : {l : List A} {i : ℕ} → n ≤ i → Filled n f d old i l → l ≡ map f (range 0 n)
-  filled-all {l} k p = is-table f 0 n d l (p .long) (λ i h. p .done i (omega arith) ∙ ap f (sym (zero-add i)))
+  filled-all k p = filled-rest (λ x h g. let no-way : ⊥ = omega arith in absurd no-way) p
 
 -- what out holds when all of it from a on was lent, and came back with row in place of the first w elements
 tail-back : {A : Type 0} (a w : ℕ) (row out back : List A) → back ≡ row ++ drop w (take (length out - a) (drop a out))

@@ -1,2 +1,5 @@
 mod Openings
 mod Replies
+mod Ranges
+mod DayRows
+mod Sizing

@@ -1,29 +1,20 @@
 -- Row 1 test by test, from the tests that a program makes, and the array of group numbers.
-use mathlib.Core.Path.{_≡_, refl, sym, ap, _∙_}
-use mathlib.Core.Bool.{Bool, true, false, not}
-use mathlib.Core.List.{List, [], _∷_, map}
+use mathlib.Core.Path.{_≡_, refl, sym, _∙_}
+use mathlib.Core.Bool.{true, false, not}
+use mathlib.Core.List.{List, [], _∷_}
 use Prim.Native.Nat.{ℕ, _≤_, _<_}
 use native.Mathlib.Omega.{arith}
-use native.Mathlib.Nat.{zero-add}
 use lib.Dec.{ltb, eqb}
 use lib.ListN.{length, getD, replicate, List·getD-eq-default}
-use borrow.Author.Tests.{lt-ltb, le-ltb, ltb-true, ltb-false}
-use Rattle.numbers.specs.Lists.{range, any}
-use Rattle.numbers.proofs.Lists.{is-table, replicate-at}
-use Rattle.numbers.proofs.Filling.{Filled}
+use borrow.Author.Tests.{lt-ltb, le-ltb}
+use Rattle.numbers.specs.Lists.{any}
+use Rattle.numbers.proofs.Lists.{replicate-at}
 use Rattle.methodology.specs.Refusals.{outside, badOpening}
 use Rattle.period.specs.Calls.{brought}
 
--- a list of numbers in the first places of 32, and 0 in the others
-pub padded-all : (groups l : List ℕ) (i : ℕ) → length groups ≤ i → Filled 32 (λ x. getD groups x 0) 0 (replicate 32 0) i l → l ≡ map (λ x. getD groups x 0) (range 0 32)
-padded-all groups l i h p =
-    is-table (λ x. getD groups x 0) 0 32 0 l (p .long) (λ x k. by x (ltb x i) refl ∙ ap (λ (y : ℕ). getD groups y 0) (sym (zero-add x)))
-  where
-    by : (x : ℕ) (t : Bool) → ltb x i ≡ t → getD l x 0 ≡ getD groups x 0
-    by x true q = p .done x (ltb-true x i q)
-    by x false q =
-        let g = ltb-false x i q in
-        p .rest x g ∙ replicate-at 32 x 0 ∙ sym (List·getD-eq-default groups 0 {n = x} (omega arith))
+-- an array of 32 places with 0 past the last group number
+pub none-left : (groups : List ℕ) (i x : ℕ) → length groups ≤ i → i ≤ x → getD (replicate 32 0) x 0 ≡ getD groups x 0
+none-left groups i x h k = replicate-at 32 x 0 ∙ sym (List·getD-eq-default groups 0 {n = x} (omega arith))
 
 -- no number is below 0
 any-outside : (l : List ℕ) → any (outside 0 32) l ≡ any (ltb 32) l

@@ -31,7 +31,7 @@ module _ (p : Period) (o : Opening) where
   opening-passed e = opening-leaves o (passed 1 (badOpening o) Clear (passed 2 (isOpen (statusOf p)) _ e .1) .0)
 
   pub opening-accepted : openingRefusal (statusOf p) o ≡ Clear → (all : List ℕ) → all ≡ map (λ i. getD (o .groups) i 0) (range 0 32)
-    → _≡_ {A = Reply} (record { period = record { status = Open; n = o .n; k = o .k; groups = all; last = 0; days = 0; highest = 0; sums = replicate 32 0 }; outcome = outcome.Opened }) (openingReply p o)
+      → _≡_ {A = Reply} (record { period = record { status = Open; n = o .n; k = o .k; groups = all; last = 0; days = 0; highest = 0; sums = replicate 32 0 }; outcome = outcome.Opened }) (openingReply p o)
   unfolding openingReply
   opening-accepted e all q = rw (e, q)
 

@@ -1,15 +1,22 @@
 // A period: opened, sized day by day, closed. Each call takes it and hands it back inside its reply.
 mod limits;
+mod sizes;
 
 use crate::limits::bad_held;
 use crate::limits::bad_opening;
 use crate::limits::padded;
 use crate::limits::sums_above;
+use crate::sizes::bad_day_number;
+use crate::sizes::bad_lengths;
+use crate::sizes::max_eul;
+use crate::sizes::with_shares;
 use methodology::Refusal;
 use methodology::Status;
 ghost use mathlib.Core.Path.{_≡_};
 ghost use Rattle.methodology.specs.Refusals.{isOpen, openingRefusal};
-ghost use Rattle.period.specs.Calls.{freshPeriod, brought, inRange, statusOf, openingReply};
+ghost use lib.ListN.{length};
+ghost use Rattle.period.specs.Calls.{freshPeriod, brought, inRange, statusOf, openingReply, dayCall, dayReply, dayBuffer};
+ghost use Rattle.period.specs.Rows.{BeforeTotal};
 
 // What the calls of a period have left. Its fields are private: a period is a fresh one, or one that calls returned.
 pub struct Period {
@@ -23,9 +30,10 @@ pub struct Period {
     sums: [u64; 32],
 }
 
-// What a call says: acceptance, or one numbered refusal, with its index in rows 5 and 6.
+// What a call says: acceptance, with a day's T and Max EUL, or one numbered refusal, with its index in rows 5 and 6.
 pub enum Outcome {
     Opened,
+    Sized(u64, u64),
     Refused(u64),
     RefusedAt(u64, u64),
 }
@@ -132,6 +140,131 @@ impl Period {
                 Reply {
                     period,
                     outcome: Outcome::Opened,
+                }
+            }
+            Refusal::Row(number) => Reply {
+                period: self,
+                outcome: Outcome::Refused(number),
+            },
+            Refusal::RowAt(number, index) => Reply {
+                period: self,
+                outcome: Outcome::RefusedAt(number, index),
+            },
+        }
+    }
+
+    // The refusal table's rows of a day that come before its figures, in their order: 2, 4, 3, 5, 6.
+    fn day_row(
+        self,
+        number: u64,
+        members: &[u64],
+        numbers: &[u64],
+        kinds: &[u64],
+        npvs: &[i64],
+        margins: &[u64],
+        extras: &[u64],
+        room: usize,
+    ) -> Refusal
+        ensures { λ r. ⌜ BeforeTotal self (dayCall number (now (members .entry)) (now (numbers .entry)) (now (kinds .entry)) (now (npvs .entry)) (now (margins .entry)) (now (extras .entry))) room r ⌝ }
+    {
+        let n = self.n;
+        let k = self.k;
+        let last = self.last;
+        let count = members.len();
+        let status = self.status_of();
+        if !is_open(status) {
+            return Refusal::Row(2);
+        }
+        if numbers.len() != count {
+            return Refusal::Row(4);
+        }
+        if kinds.len() != count {
+            return Refusal::Row(4);
+        }
+        if bad_lengths(n, k, count, npvs.len(), margins.len(), extras.len(), room) {
+            return Refusal::Row(4);
+        }
+        if bad_day_number(last, number) {
+            return Refusal::Row(3);
+        }
+        let bad5 = validation::first_bad_heading(members, numbers, kinds, n);
+        if bad5 < count {
+            return Refusal::RowAt(5, bad5 as u64);
+        }
+        if validation::last_missing(members, n) {
+            return Refusal::RowAt(5, count as u64);
+        }
+        let bad6 = validation::first_bad_amount(npvs, margins, extras, k as usize);
+        if bad6 < count {
+            return Refusal::RowAt(6, bad6 as u64);
+        }
+        Refusal::Clear
+    }
+
+    // "A day writes 5 numbers a member (e, share, value, reserve, estimate), each member's five into its own stretch of the lent buffer, and
+    // returns T and Max EUL."
+    pub fn day(
+        mut self,
+        number: u64,
+        members: &[u64],
+        numbers: &[u64],
+        kinds: &[u64],
+        npvs: &[i64],
+        margins: &[u64],
+        extras: &[u64],
+        out: &mut [u64],
+    ) -> Reply
+        ensures { λ r. ⌜ r ≡ dayReply self (dayCall number (now (members .entry)) (now (numbers .entry)) (now (kinds .entry)) (now (npvs .entry)) (now (margins .entry)) (now (extras .entry))) (length (now (out .entry))) ⌝ }
+        ensures { λ _. ⌜ now (out .exit) ≡ dayBuffer self (dayCall number (now (members .entry)) (now (numbers .entry)) (now (kinds .entry)) (now (npvs .entry)) (now (margins .entry)) (now (extras .entry))) (now (out .entry)) ⌝ }
+    {
+        let row = self.day_row(
+            number,
+            members,
+            numbers,
+            kinds,
+            npvs,
+            margins,
+            extras,
+            out.len(),
+        );
+        match row {
+            Refusal::Clear => {
+                let n = self.n as usize;
+                let k = self.k as usize;
+                let found = exposure::day::member_losses(
+                    members,
+                    kinds,
+                    npvs,
+                    margins,
+                    extras,
+                    n,
+                    k,
+                );
+                let total = found.total;
+                if total == 0 {
+                    return Reply {
+                        period: self,
+                        outcome: Outcome::Refused(7),
+                    };
+                }
+                let groups = self.groups;
+                let top = max_eul(groups, n, members, kinds, npvs, margins, extras, k);
+                let each = found.each;
+                fund::write_dailies(each, n, top, total, out);
+                let old = self.sums;
+                let sums = with_shares(old, each, n, total);
+                let highest = exposure::account::greater(self.highest, top);
+                let days = self.days + 1;
+                let period = Period {
+                    last: number,
+                    days,
+                    highest,
+                    sums,
+                    ..self
+                };
+                Reply {
+                    period,
+                    outcome: Outcome::Sized(total, top),
                 }
             }
             Refusal::Row(number) => Reply {

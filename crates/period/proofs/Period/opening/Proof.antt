@@ -17,7 +17,7 @@ enum-told : tie.Need-enum-told
 enum-told c = search needs
 
 padded-requires : tie.Need-padded-requires
-padded-requires c κs = 
+padded-requires c κs =
     let s = c .before .before .before .before .before in
     let o = brought (s .args .n) (s .args .k) (s .args .groups .now) in
     let e = rw (c .before .before .before .status-of .ensures) at (sym (c .before .before .opening-row .ensures) ∙ c .enum-told .given .1) in
@@ -31,21 +31,21 @@ enum-known-row-2 : tie.Need-enum-known-row-2
 enum-known-row-2 c = search needs
 
 returns : tie.Need-returns
-returns c = 
+returns c =
     let s = c .before .before .before .before .before .before in
     let o = brought (s .args .n) (s .args .k) (s .args .groups .now) in
     let e = rw (c .before .before .before .before .status-of .ensures) at (sym (c .before .before .before .opening-row .ensures) ∙ c .before .enum-told .given .1) in
     opening-accepted (s .args .self) o e _ (c .padded .ensures)
 
 returns-2 : tie.Need-returns-2
-returns-2 c = 
+returns-2 c =
     let s = c .before .before .before .before .before .before in
     let o = brought (s .args .n) (s .args .k) (s .args .groups .now) in
     let e = rw (c .before .before .before .before .status-of .ensures) at (sym (c .before .before .before .opening-row .ensures) ∙ c .before .row .given .1) in
     opening-refused (s .args .self) o _ e
 
 returns-3 : tie.Need-returns-3
-returns-3 c = 
+returns-3 c =
     let s = c .before .before .before .before .before .before in
     let o = brought (s .args .n) (s .args .k) (s .args .groups .now) in
     let e = rw (c .before .before .before .before .status-of .ensures) at (sym (c .before .before .before .opening-row .ensures) ∙ c .before .row2 .given .1) in

@@ -4,8 +4,8 @@ use mathlib.Core.Path.{refl}
 use Prim.Native.Nat.{ℕ, _-_, _≤_}
 use native.Mathlib.Omega.{arith}
 use lib.ListN.{length, getD, replicate, length-replicate}
-use Rattle.numbers.proofs.Filling.{Filled, filled-none, filled-more}
-use Rattle.period.proofs.Openings.{padded-all}
+use Rattle.numbers.proofs.Filling.{Filled, filled-none, filled-more, filled-rest}
+use Rattle.period.proofs.Openings.{none-left}
 use Rattle.period.proofs.limits.padded.Statement.{statement}
 use Rattle.period.proofs.limits.padded.Tie as tie
 
@@ -40,7 +40,7 @@ loop-again : tie.Need-loop-again Inv-loop μ-loop
 loop-again c = (omega arith, filled-more 32 _ 0 _ (omega (arith, c .before .before .before .pre, c .before .loop-test .taken)) refl (c .before .before .loop .inv .1))
 
 returns : tie.Need-returns Inv-loop μ-loop
-returns c = padded-all (c .before .before .args .groups .now) _ _ (c .loop-test .left) (c .before .loop .inv .1)
+returns c = filled-rest 32 _ 0 _ (λ x h g. none-left (c .before .before .args .groups .now) _ x (c .loop-test .left) h) (c .before .loop .inv .1)
 
 pub padded-spec : {M : Type 1} → statement M
 padded-spec =

@@ -1,0 +1,101 @@
+-- `day` meets its contract: the refusal of `day_row`, row 7 by the total that was found, or the reply and the buffer of `Sizing`.
+use borrow.Author.Needs.{needs}
+use mathlib.Core.Path.{sym, _∙_}
+use native.Mathlib.Omega.{arith}
+use lib.ListN.{length}
+use Rattle.period.specs.Calls.{DayCall, dayCall}
+use Rattle.period.specs.Rows.{Passes}
+use Rattle.period.proofs.DayRows.{row-7, none}
+use Rattle.period.proofs.Sizing.{in-range, members-few, room-long, sizable, groups-fit, sums-fit, total-is, part, shares, top-is, top-part, written, day-refused, day-refused-at, day-accepted}
+use Rattle.period.proofs.Period.day.Statement.{statement}
+use Rattle.period.proofs.Period.day.Tie as tie
+
+abbrev call : tie.Start → DayCall
+call s = dayCall (s .args .number) (s .args .members .now) (s .args .numbers .now) (s .args .kinds .now) (s .args .npvs .now) (s .args .margins .now) (s .args .extras .now)
+
+-- the arm in which no row before 7 is met
+passes : (c : tie.After-enum-told) → let s = c .before .before .before .before .before .before .before .before .before in Passes (s .args .self) (call s) (length (s .args .out .now))
+passes c = c .before .before .day-row .ensures .clear (c .enum-told .given .1)
+
+day-row-requires : tie.Need-day-row-requires
+day-row-requires c κs = search needs
+
+enum-told : tie.Need-enum-told
+enum-told c = search needs
+
+member-losses-requires : tie.Need-member-losses-requires
+member-losses-requires c κs = sizable (passes c)
+
+returns : tie.Need-returns
+returns c =
+    let m = c .before in
+    let s = passes (m .before) in
+    day-refused _ _ _ 7 (row-7 s (sym (total-is s _ (m .member-losses .ensures)) ∙ c .if1 .taken))
+
+max-eul-requires : tie.Need-max-eul-requires
+max-eul-requires c κs =
+    let s = passes (c .before .before .before) in
+    (sizable s, groups-fit s)
+
+write-dailies-requires : tie.Need-write-dailies-requires
+write-dailies-requires c κs =
+    let m = c .before .before .before .before .before in
+    let s = passes (m .before) in
+    ((members-few s, room-long s), (part s _ (m .member-losses .ensures) (c .before .before .before .before .if1 .left), top-part s _ (m .member-losses .ensures) _ (c .before .before .max-eul .ensures)))
+
+with-shares-requires : tie.Need-with-shares-requires
+with-shares-requires c κs =
+    let m = c .before .before .before .before .before .before .before .before .before in
+    let s = passes (m .before) in
+    (members-few s, (part s _ (m .member-losses .ensures) (c .before .before .before .before .before .before .before .before .if1 .left), sums-fit s))
+
+greater-requires : tie.Need-greater-requires
+greater-requires c κs = search needs
+
+add-days : tie.Need-add-days
+add-days c =
+    let r = in-range (passes (c .before .before .before .before .before .before .before .before .before .before .before .before .before)) in
+    omega (arith, r .counted, r .month)
+
+enum-known-row : tie.Need-enum-known-row
+enum-known-row c = search needs
+
+enum-known-row-2 : tie.Need-enum-known-row-2
+enum-known-row-2 c = search needs
+
+same-length : tie.Need-same-length
+same-length c = search needs
+
+returns-2 : tie.Need-returns-2
+returns-2 c =
+    let m = c .before .before .before .before .before .before .before .before .before .before .before .before .before in
+    let s = passes (m .before) in
+    let f = m .member-losses .ensures in
+    let x = c .before .before .before .before .before .before .before .before .before .before .max-eul .ensures in
+    day-accepted _ _ _ (none s (λ e. c .before .before .before .before .before .before .before .before .before .before .before .before .if1 .left (total-is s _ f ∙ e))) _ _ _ _ _ (total-is s _ f) (top-is s _ f _ x) (c .before .before .greater .ensures) (c .before .before .before .with-shares .ensures ∙ shares s _ f) (c .before .before .before .before .before .before .before .write-dailies .ensures ∙ written s _ f _ x)
+
+returns-3 : tie.Need-returns-3
+returns-3 c = day-refused _ _ _ _ (c .before .before .before .day-row .ensures .row _ (c .before .row .given .1))
+
+returns-4 : tie.Need-returns-4
+returns-4 c = day-refused-at _ _ _ _ _ (c .before .before .before .day-row .ensures .row-at _ _ (c .before .row2 .given .1))
+
+pub day-spec : {M : Type 1} → statement M
+day-spec =
+    tie.close
+    (tie.spec
+    day-row-requires
+    enum-told
+    member-losses-requires
+    returns
+    max-eul-requires
+    write-dailies-requires
+    with-shares-requires
+    greater-requires
+    add-days
+    enum-known-row
+    enum-known-row-2
+    same-length
+    returns-2
+    returns-3
+    returns-4)

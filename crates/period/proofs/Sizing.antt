@@ -1,0 +1,121 @@
+-- A day that no row before 7 refuses: what its figures ask for holds, and what the program found makes the reply and the buffer.
+use mathlib.Core.Path.{_≡_, refl, sym, ap, _∙_}
+use mathlib.Core.Bool.{Bool, true, false, cond}
+use mathlib.Core.List.{List, map, flatMap}
+use Prim.Native.Nat.{ℕ, _+_, _*_, _≤_, _<_, max}
+use native.Mathlib.Nat.{add-comm}
+use native.Mathlib.Omega.{arith}
+use lib.Dec.{ltb}
+use lib.ListN.{length, getD, take}
+use lib.Seq.{getD-take}
+use borrow.Author.Tests.{ltb-true}
+use Rattle.numbers.specs.Lists.{range}
+use Rattle.numbers.proofs.Lists.{map-eq}
+use Rattle.methodology.specs.declared.Refusal.the-variants.{Clear, Row, RowAt}
+use Rattle.methodology.specs.Account.{Account}
+use Rattle.methodology.specs.Member.{loss}
+use Rattle.methodology.specs.Day.{total, maxEul, scale, share, five, dailies}
+use Rattle.methodology.specs.Refusals.{badOpening}
+use Rattle.quotient.specs.Ranges.{Loss}
+use Rattle.validation.specs.Slices.{Lent}
+use Rattle.validation.proofs.Opening.{opening-leaves}
+use Rattle.validation.proofs.Day.{sized, accounts-members}
+use Rattle.exposure.specs.declared.day.Losses.{Losses}
+use Rattle.exposure.specs.Cut.{Owners}
+use Rattle.exposure.specs.Day.{Sizable, LossesAre}
+use Rattle.exposure.proofs.Members.{owners}
+use Rattle.exposure.proofs.Admitted.{admitted, groups-few}
+use Rattle.exposure.proofs.Found as figures
+use Rattle.fund.proofs.Dailies.{are-dailies}
+use Rattle.period.specs.declared.Period.{Period}
+use Rattle.period.specs.declared.Reply.{Reply}
+use Rattle.period.specs.declared.Outcome.the-variants as outcome
+use Rattle.period.specs.Calls.{held, brought, DayCall, dayOf, accountsOf, callRefusal, shareAt, dayReply, dayBuffer}
+use Rattle.period.specs.Rows.{Passes}
+use Rattle.period.proofs.Ranges.{Ranged, ranged}
+use Rattle.period.proofs.DayRows.{lent}
+
+module _ {p : Period} {c : DayCall} {room : ℕ} (s : Passes p c room) where
+  abbrev accts : List Account
+  accts = accountsOf p c
+
+  pub in-range : Ranged p
+  in-range = ranged p (s .in-range)
+
+  pub members-few : p .n ≤ 32
+  members-few = opening-leaves (held p) (in-range .opened) .members-few
+
+  pub room-long : room ≡ 5 * p .n
+  room-long = sized (held p) (dayOf c) room (s .lengths) .room-long
+
+  slices : Lent (p .k) (c .kinds) (c .npvs) (c .margins) (c .extras) accts
+  slices = lent p c room (s .kinds-long) (s .lengths)
+
+  own : Owners (c .members) accts
+  own = rw (accounts-members (p .k) (c .number) (c .members) (c .numbers) (c .kinds) (c .npvs) (c .margins) (c .extras)) at (owners accts)
+
+  pub sizable : Sizable (p .n) (p .k) (c .members) (c .kinds) (c .npvs) (c .margins) (c .extras)
+  sizable =
+      admitted (held p) (in-range .opened) room (c .number) (c .members) (c .numbers) (c .kinds) (c .npvs) (c .margins) (c .extras) (s .kinds-long) (s .lengths) (s .headings) (s .amounts)
+
+  pub groups-fit : (i : ℕ) → i < p .n → getD (p .groups) i 0 ≤ 32
+  groups-fit i h =
+      let few = groups-few (held p) (in-range .opened) i (omega (arith, opening-leaves (held p) (in-range .opened) .groups-long)) in
+      rw (getD-take {A = ℕ} (p .n) (p .groups) i 0 h) at few
+
+  pub sums-fit : (i : ℕ) → getD (p .sums) i 0 ≤ 31 * scale
+  sums-fit i = let r = in-range in omega (arith, r .sums i, r .counted, r .month)
+
+  -- what the program found
+  module _ (r : Losses) (found : LossesAre (p .n) (p .k) (c .members) (c .kinds) (c .npvs) (c .margins) (c .extras) r) where
+    pub total-is : r .total ≡ total (held p) accts
+    total-is = figures.total-is (held p) accts slices own sizable r found
+
+    pub part : (r .total ≡ 0 → ⊥) → (i : ℕ) → i < p .n → Loss (getD (r .each) i 0) (r .total)
+    part h i l =
+        record {
+          positive = omega arith;
+          part = figures.loss-part (held p) accts slices own sizable r found i l;
+          bounded = omega (arith, figures.total-few (held p) accts slices own sizable r found);
+        }
+
+    pub shares :
+        map (λ i. getD (p .sums) i 0 + cond (ltb i (p .n)) (share (getD (r .each) i 0) (r .total)) 0) (range 0 32)
+        ≡ map (λ i. getD (p .sums) i 0 + shareAt p c i) (range 0 32)
+    shares = map-eq _ _ (range 0 32) (λ i m. ap (λ (x : ℕ). getD (p .sums) i 0 + x) (by i (ltb i (p .n)) refl))
+      where
+        by : (i : ℕ) (t : Bool) → ltb i (p .n) ≡ t → cond t (share (getD (r .each) i 0) (r .total)) 0 ≡ cond t (share (loss (p .k) accts (i + 1)) (total (held p) accts)) 0
+        by i true q =
+            let at : getD (r .each) i 0 ≡ loss (p .k) accts (i + 1) = figures.loss-at (held p) accts slices own sizable r found i (ltb-true i (p .n) q) ∙ ap (loss (p .k) accts) (add-comm 1 i) in
+            rw (at, total-is)
+        by i false q = refl
+
+    module _ (top : ℕ) (is : (accts : List Account) → Lent (p .k) (c .kinds) (c .npvs) (c .margins) (c .extras) accts → Owners (c .members) accts → top ≡ maxEul (brought (p .n) (p .k) (take (p .n) (p .groups))) accts) where
+      pub top-is : top ≡ maxEul (held p) accts
+      top-is = is accts slices own
+
+      pub top-part : top ≤ r .total
+      top-part = figures.top-part (held p) accts slices own sizable r found top top-is
+
+      pub written : flatMap (λ e. five e top (r .total)) (take (p .n) (r .each)) ≡ dailies (held p) accts
+      written = rw (top-is, total-is) (are-dailies (held p) accts (r .each) (found .each accts slices own))
+
+-- the reply and the buffer, by what the refusal table says
+module _ (p : Period) (c : DayCall) (out : List ℕ) where
+  pub day-refused : (number : ℕ) → callRefusal p c (length out) ≡ Row number
+      → (_≡_ {A = Reply} (record { period = p; outcome = outcome.Refused number }) (dayReply p c (length out))) × (out ≡ dayBuffer p c out)
+  unfolding dayReply dayBuffer
+  day-refused number e = (rw e, rw e)
+
+  pub day-refused-at : (number index : ℕ) → callRefusal p c (length out) ≡ RowAt number index
+      → (_≡_ {A = Reply} (record { period = p; outcome = outcome.RefusedAt number index }) (dayReply p c (length out))) × (out ≡ dayBuffer p c out)
+  unfolding dayReply dayBuffer
+  day-refused-at number index e = (rw e, rw e)
+
+  pub day-accepted : callRefusal p c (length out) ≡ Clear
+      → (t top highest : ℕ) (sums after : List ℕ)
+      → t ≡ total (held p) (accountsOf p c) → top ≡ maxEul (held p) (accountsOf p c) → highest ≡ max (p .highest) top
+      → sums ≡ map (λ i. getD (p .sums) i 0 + shareAt p c i) (range 0 32) → after ≡ dailies (held p) (accountsOf p c)
+      → (_≡_ {A = Reply} (record { period = record { status = p .status; n = p .n; k = p .k; groups = p .groups; last = c .number; days = p .days + 1; highest = highest; sums = sums }; outcome = outcome.Sized t top }) (dayReply p c (length out))) × (after ≡ dayBuffer p c out)
+  unfolding dayReply dayBuffer
+  day-accepted e t top highest sums after a b h q w = (rw (e, q, h, a, b), rw (e, w))

@@ -1,0 +1,30 @@
+-- What the rows of a day that come before its figures leave: all that the figures ask for.
+use mathlib.Core.Path.{_≡_}
+use mathlib.Core.Bool.{true, false}
+use Prim.Native.Nat.{ℕ}
+use lib.ListN.{length}
+use Rattle.numbers.specs.Lists.{firstWhere}
+use Rattle.methodology.specs.declared.Refusal.{Refusal}
+use Rattle.methodology.specs.declared.Refusal.the-variants.{Clear, Row, RowAt}
+use Rattle.methodology.specs.Account.{nobody}
+use Rattle.methodology.specs.Refusals.{isOpen, badLengths, badDayNumber, firstBadHeading, lastMissing, badAmount}
+use Rattle.period.specs.declared.Period.{Period}
+use Rattle.period.specs.Calls.{held, inRange, statusOf, DayCall, dayOf, accountsOf, callRefusal}
+
+-- no row before 7 is met
+pub record Passes (p : Period) (c : DayCall) (room : ℕ) : Type 0 where
+  pub in-range : inRange p ≡ true
+  pub opened : isOpen (statusOf p) ≡ true
+  pub numbers-long : length (c .numbers) ≡ length (c .members)
+  pub kinds-long : length (c .kinds) ≡ length (c .members)
+  pub lengths : badLengths (held p) (dayOf c) room ≡ false
+  pub number : badDayNumber (p .last) (c .number) ≡ false
+  pub headings : firstBadHeading (p .n) nobody (dayOf c .headings) ≡ length (dayOf c .headings)
+  pub complete : lastMissing (p .n) (dayOf c .headings) ≡ false
+  pub amounts : firstWhere badAmount (accountsOf p c) ≡ length (dayOf c .headings)
+
+-- `r` is what the table says by the rows before 7, and `Clear` where it is left to row 7
+pub record BeforeTotal (p : Period) (c : DayCall) (room : ℕ) (r : Refusal) : Type 0 where
+  pub row : (number : ℕ) → r ≡ Row number → callRefusal p c room ≡ Row number
+  pub row-at : (number index : ℕ) → r ≡ RowAt number index → callRefusal p c room ≡ RowAt number index
+  pub clear : r ≡ Clear → Passes p c room
