@@ -18,24 +18,25 @@ use Rattle.exposure.specs.Day.{Sizable, LossesAre}
 use Rattle.exposure.proofs.Bounds.{lent-limited, total-bound}
 use Rattle.exposure.proofs.MaxTotal.{loss-le-total, max-le-total}
 
-module _ (o : Opening) (accts : List Account) {holders kinds : List ℕ} {npvs : List ℤ} {margins extras : List ℕ} (lent : Lent (o .k) kinds npvs margins extras accts) (own : Owners holders accts) (fits : Sizable (o .n) (o .k) holders kinds npvs margins extras) (r : Losses) (found : LossesAre (o .n) (o .k) holders kinds npvs margins extras r) where
-  pub total-is : r .total ≡ total o accts
-  unfolding total
-  total-is = found .total accts lent own
-
-  pub total-few : r .total ≤ 256 * (3 * limit)
+module _ (o : Opening) (accts : List Account) {holders kinds : List ℕ} {npvs : List ℤ} {margins extras : List ℕ} (lent : Lent (o .k) kinds npvs margins extras accts) (fits : Sizable (o .n) (o .k) holders kinds npvs margins extras) where
+  pub total-few : total o accts ≤ 256 * (3 * limit)
   total-few =
       let few : length accts ≤ 256 = omega (arith, lent .kinds-long, fits .within .few) in
-      rw total-is (omega (arith, total-bound limit accts (lent-limited (lent .amounts) (fits .within)) o))
+      omega (arith, total-bound limit accts (lent-limited (lent .amounts) (fits .within)) o)
 
-  pub loss-at : (i : ℕ) → i < o .n → getD (r .each) i 0 ≡ loss (o .k) accts (1 + i)
-  loss-at i l =
-      sym (getD-take (o .n) (r .each) i 0 l)
-      ∙ ap (λ (x : List ℕ). getD x i 0) (found .each accts lent own)
-      ∙ table-at (loss (o .k) accts) 1 (o .n) i 0 l
+  module _ (own : Owners holders accts) (r : Losses) (found : LossesAre (o .n) (o .k) holders kinds npvs margins extras r) where
+    pub total-is : r .total ≡ total o accts
+    unfolding total
+    total-is = found .total accts lent own
 
-  pub loss-part : (i : ℕ) → i < o .n → getD (r .each) i 0 ≤ r .total
-  loss-part i l = rw (loss-at i l, total-is) (loss-le-total o accts {m = 1 + i} (range-mem 1 (o .n) (omega arith) (omega arith)))
+    pub loss-at : (i : ℕ) → i < o .n → getD (r .each) i 0 ≡ loss (o .k) accts (1 + i)
+    loss-at i l =
+        sym (getD-take (o .n) (r .each) i 0 l)
+        ∙ ap (λ (x : List ℕ). getD x i 0) (found .each accts lent own)
+        ∙ table-at (loss (o .k) accts) 1 (o .n) i 0 l
 
-  pub top-part : (top : ℕ) → top ≡ maxEul o accts → top ≤ r .total
-  top-part top e = rw (e, total-is) (max-le-total o accts)
+    pub loss-part : (i : ℕ) → i < o .n → getD (r .each) i 0 ≤ r .total
+    loss-part i l = rw (loss-at i l, total-is) (loss-le-total o accts {m = 1 + i} (range-mem 1 (o .n) (omega arith) (omega arith)))
+
+    pub top-part : (top : ℕ) → top ≡ maxEul o accts → top ≤ r .total
+    top-part top e = rw (e, total-is) (max-le-total o accts)

@@ -50,7 +50,7 @@ exactCharge o days m =
 unfoldable pub shortfall : (rawCharge : ℕ) → ℕ
 shortfall rawCharge = minimum - rawCharge
 
--- the allowance of demand 3, by which a raw charge may be above the exact one: "1 dollar plus 1.1M/10^12"
+-- the allowance of demand 3: a raw charge is above the exact one by less than this, "1 dollar plus 1.1M/10^12"
 unfoldable pub allowance : (M : ℕ) → Fraction
 allowance M = whole 1 ⊕ (11 * M) over (10 * scale)
 

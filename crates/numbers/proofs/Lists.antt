@@ -143,6 +143,12 @@ module _ {B : Type 0} (f : ℕ → B) (a n : ℕ) where
   pub is-table : (d : B) (l : List B) → length l ≡ n → ((i : ℕ) → i < n → getD l i d ≡ f (a + i)) → l ≡ map f (range a n)
   is-table d l e h = ext-getD d l (map f (range a n)) (e ∙ sym table-length) (λ i k. let k′ : i < n = omega arith in h i k′ ∙ sym (table-at i d k′))
 
+-- the first i of a table
+pub table-take : {B : Type 0} (f : ℕ → B) (a n i : ℕ) (d : B) → i ≤ n → take i (map f (range a n)) ≡ map f (range a i)
+table-take f a n i d h =
+    is-table f a i d (take i (map f (range a n))) (length-take-le i (map f (range a n)) (omega (arith, table-length f a n)))
+    (λ x l. getD-take i (map f (range a n)) x d l ∙ table-at f a n x d (omega arith))
+
 -- a list is the table of its elements
 pub own-table : {A : Type 0} (l : List A) (d : A) → l ≡ map (λ i. getD l i d) (range 0 (length l))
 own-table l d = is-table (λ i. getD l i d) 0 (length l) d l refl (λ i h. rw zero-add)

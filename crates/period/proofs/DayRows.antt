@@ -16,7 +16,7 @@ use Rattle.validation.specs.Slices.{Lent}
 use Rattle.validation.proofs.Headings.{headings-length, bad-heading-le}
 use Rattle.validation.proofs.Day.{sized, accounts-lent, accounts-length}
 use Rattle.period.specs.declared.Period.{Period}
-use Rattle.period.specs.Calls.{held, statusOf, DayCall, dayOf, accountsOf, headingsApart, callRefusal}
+use Rattle.period.specs.Calls.{held, statusOf, DayCall, dayOf, accountsBrought, callRefusal}
 use Rattle.period.specs.Rows.{Passes, BeforeTotal}
 
 -- the three forms of a refusal are apart
@@ -57,7 +57,7 @@ module _ (p : Period) (c : DayCall) (room : ℕ) where
   lengths-are = rw (headings-length (c .members) (c .numbers) (c .kinds))
 
   -- and then the accounts are those that the slices hold
-  pub lent : length (c .kinds) ≡ length (c .members) → badLengths (held p) (dayOf c) room ≡ false → Lent (p .k) (c .kinds) (c .npvs) (c .margins) (c .extras) (accountsOf p c)
+  pub lent : length (c .kinds) ≡ length (c .members) → badLengths (held p) (dayOf c) room ≡ false → Lent (p .k) (c .kinds) (c .npvs) (c .margins) (c .extras) (accountsBrought p c)
   lent b e4 =
       let z = sized (held p) (dayOf c) room e4 in
       let n = headings-length (c .members) (c .numbers) (c .kinds) in
@@ -67,8 +67,8 @@ module _ (p : Period) (c : DayCall) (room : ℕ) where
   pub headings-le : firstBadHeading (p .n) nobody (dayOf c .headings) ≤ length (c .members)
   headings-le = rw (headings-length (c .members) (c .numbers) (c .kinds)) at (bad-heading-le (p .n) nobody (dayOf c .headings))
 
-  pub amounts-le : firstWhere badAmount (accountsOf p c) ≤ length (c .members)
-  amounts-le = rw (accounts-length (p .k) (c .number) (c .members) (c .numbers) (c .kinds) (c .npvs) (c .margins) (c .extras)) at (first-le badAmount (accountsOf p c))
+  pub amounts-le : firstWhere badAmount (accountsBrought p c) ≤ length (c .members)
+  amounts-le = rw (accounts-length (p .k) (c .number) (c .members) (c .numbers) (c .kinds) (c .npvs) (c .margins) (c .extras)) at (first-le badAmount (accountsBrought p c))
 
   pub row-2 : isOpen (statusOf p) ≡ false → callRefusal p c room ≡ Row 2
   unfolding callRefusal row_when_else_
@@ -105,19 +105,19 @@ module _ (p : Period) (c : DayCall) (room : ℕ) where
               row-5-missing h = rw (o, eq-eqb _ _ a, eq-eqb _ _ b, e4, e3, e5, le-ltb (length (dayOf c .headings)) (length (dayOf c .headings)) (omega arith), h)
 
               module _ (all : lastMissing (p .n) (dayOf c .headings) ≡ false) where
-                pub row-6 : firstWhere badAmount (accountsOf p c) < length (dayOf c .headings) → callRefusal p c room ≡ RowAt 6 (firstWhere badAmount (accountsOf p c))
+                pub row-6 : firstWhere badAmount (accountsBrought p c) < length (dayOf c .headings) → callRefusal p c room ≡ RowAt 6 (firstWhere badAmount (accountsBrought p c))
                 unfolding callRefusal dayRefusal row_when_else_ row_at_when_else_
                 row-6 h = rw (o, eq-eqb _ _ a, eq-eqb _ _ b, e4, e3, e5, le-ltb (length (dayOf c .headings)) (length (dayOf c .headings)) (omega arith), all, lt-ltb _ _ h)
 
 -- row 7, and none
 module _ {p : Period} {c : DayCall} {room : ℕ} (s : Passes p c room) where
-  pub row-7 : total (held p) (accountsOf p c) ≡ 0 → callRefusal p c room ≡ Row 7
+  pub row-7 : total (held p) (accountsBrought p c) ≡ 0 → callRefusal p c room ≡ Row 7
   unfolding callRefusal dayRefusal row_when_else_ row_at_when_else_
   row-7 h =
       let same = le-ltb (length (dayOf c .headings)) (length (dayOf c .headings)) (omega arith) in
       rw (s .opened, eq-eqb _ _ (s .numbers-long), eq-eqb _ _ (s .kinds-long), s .lengths, s .number, s .headings, same, s .complete, s .amounts, same, h)
 
-  pub none : (total (held p) (accountsOf p c) ≡ 0 → ⊥) → callRefusal p c room ≡ Clear
+  pub none : (total (held p) (accountsBrought p c) ≡ 0 → ⊥) → callRefusal p c room ≡ Clear
   unfolding callRefusal dayRefusal row_when_else_ row_at_when_else_
   none h =
       let same = le-ltb (length (dayOf c .headings)) (length (dayOf c .headings)) (omega arith) in

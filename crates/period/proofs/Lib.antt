@@ -3,3 +3,4 @@ mod Replies
 mod Ranges
 mod DayRows
 mod Sizing
+pub mod Reach

@@ -1,16 +1,16 @@
 -- Replies by what the refusal table says, and what a table that lets a call pass says of its rows.
-use mathlib.Core.Path.{_≡_, refl, sym, ap}
+use mathlib.Core.Path.{_≡_, refl}
 use mathlib.Core.Bool.{Bool, true, false}
 use mathlib.Core.List.{List, map}
-use Prim.Native.Nat.{ℕ, _≤_}
+use Prim.Native.Nat.{ℕ}
 use native.Mathlib.Omega.{arith}
-use lib.ListN.{length, getD, replicate}
+use lib.ListN.{getD, replicate}
 use Rattle.numbers.specs.Lists.{range}
 use Rattle.methodology.specs.declared.Refusal.{Refusal}
 use Rattle.methodology.specs.declared.Refusal.the-variants.{Clear, Row, RowAt}
 use Rattle.methodology.specs.declared.Status.the-variants.{Open}
 use Rattle.methodology.specs.Account.{Opening}
-use Rattle.methodology.specs.Refusals.{row_when_else_, isOpen, badOpening, openingRefusal}
+use Rattle.methodology.specs.Refusals.{row_when_else_, row_at_when_else_, isOpen, badOpening, openingRefusal}
 use Rattle.validation.specs.Rows.{Opened}
 use Rattle.validation.proofs.Opening.{opening-leaves}
 use Rattle.period.specs.declared.Period.{Period}
@@ -23,6 +23,11 @@ pub passed : (number : ℕ) (b : Bool) (rest : Refusal) → row number when b el
 unfolding row_when_else_
 passed number true rest e = let z : _≡_ {A = ℕ} 0 1 = cc in absurd (omega arith)
 passed number false rest e = (refl, e)
+
+pub passed-at : (number index : ℕ) (b : Bool) (rest : Refusal) → row number at index when b else rest ≡ Clear → (b ≡ false) × (rest ≡ Clear)
+unfolding row_at_when_else_
+passed-at number index true rest e = let z : _≡_ {A = ℕ} 0 1 = cc in absurd (omega arith)
+passed-at number index false rest e = (refl, e)
 
 -- an opening
 module _ (p : Period) (o : Opening) where

@@ -1,5 +1,5 @@
 -- A day that no row before 7 refuses: what its figures ask for holds, and what the program found makes the reply and the buffer.
-use mathlib.Core.Path.{_≡_, refl, sym, ap, _∙_}
+use mathlib.Core.Path.{_≡_, refl, ap, _∙_}
 use mathlib.Core.Bool.{Bool, true, false, cond}
 use mathlib.Core.List.{List, map, flatMap}
 use Prim.Native.Nat.{ℕ, _+_, _*_, _≤_, _<_, max}
@@ -15,8 +15,7 @@ use Rattle.methodology.specs.declared.Refusal.the-variants.{Clear, Row, RowAt}
 use Rattle.methodology.specs.Account.{Account}
 use Rattle.methodology.specs.Member.{loss}
 use Rattle.methodology.specs.Day.{total, maxEul, scale, share, five, dailies}
-use Rattle.methodology.specs.Refusals.{badOpening}
-use Rattle.quotient.specs.Ranges.{Loss}
+use Rattle.quotient.specs.Ranges.{Loss, greatestTotal}
 use Rattle.validation.specs.Slices.{Lent}
 use Rattle.validation.proofs.Opening.{opening-leaves}
 use Rattle.validation.proofs.Day.{sized, accounts-members}
@@ -30,14 +29,14 @@ use Rattle.fund.proofs.Dailies.{are-dailies}
 use Rattle.period.specs.declared.Period.{Period}
 use Rattle.period.specs.declared.Reply.{Reply}
 use Rattle.period.specs.declared.Outcome.the-variants as outcome
-use Rattle.period.specs.Calls.{held, brought, DayCall, dayOf, accountsOf, callRefusal, shareAt, dayReply, dayBuffer}
+use Rattle.period.specs.Calls.{held, brought, DayCall, dayOf, accountsBrought, callRefusal, shareAt, dayReply, dayBuffer}
 use Rattle.period.specs.Rows.{Passes}
 use Rattle.period.proofs.Ranges.{Ranged, ranged}
 use Rattle.period.proofs.DayRows.{lent}
 
 module _ {p : Period} {c : DayCall} {room : ℕ} (s : Passes p c room) where
   abbrev accts : List Account
-  accts = accountsOf p c
+  accts = accountsBrought p c
 
   pub in-range : Ranged p
   in-range = ranged p (s .in-range)
@@ -66,17 +65,20 @@ module _ {p : Period} {c : DayCall} {room : ℕ} (s : Passes p c room) where
   pub sums-fit : (i : ℕ) → getD (p .sums) i 0 ≤ 31 * scale
   sums-fit i = let r = in-range in omega (arith, r .sums i, r .counted, r .month)
 
+  pub total-few : total (held p) accts ≤ greatestTotal
+  total-few = omega (arith, figures.total-few (held p) accts slices sizable)
+
   -- what the program found
   module _ (r : Losses) (found : LossesAre (p .n) (p .k) (c .members) (c .kinds) (c .npvs) (c .margins) (c .extras) r) where
     pub total-is : r .total ≡ total (held p) accts
-    total-is = figures.total-is (held p) accts slices own sizable r found
+    total-is = figures.total-is (held p) accts slices sizable own r found
 
     pub part : (r .total ≡ 0 → ⊥) → (i : ℕ) → i < p .n → Loss (getD (r .each) i 0) (r .total)
     part h i l =
         record {
           positive = omega arith;
-          part = figures.loss-part (held p) accts slices own sizable r found i l;
-          bounded = omega (arith, figures.total-few (held p) accts slices own sizable r found);
+          part = figures.loss-part (held p) accts slices sizable own r found i l;
+          bounded = omega (arith, total-is, total-few);
         }
 
     pub shares :
@@ -86,7 +88,7 @@ module _ {p : Period} {c : DayCall} {room : ℕ} (s : Passes p c room) where
       where
         by : (i : ℕ) (t : Bool) → ltb i (p .n) ≡ t → cond t (share (getD (r .each) i 0) (r .total)) 0 ≡ cond t (share (loss (p .k) accts (i + 1)) (total (held p) accts)) 0
         by i true q =
-            let at : getD (r .each) i 0 ≡ loss (p .k) accts (i + 1) = figures.loss-at (held p) accts slices own sizable r found i (ltb-true i (p .n) q) ∙ ap (loss (p .k) accts) (add-comm 1 i) in
+            let at : getD (r .each) i 0 ≡ loss (p .k) accts (i + 1) = figures.loss-at (held p) accts slices sizable own r found i (ltb-true i (p .n) q) ∙ ap (loss (p .k) accts) (add-comm 1 i) in
             rw (at, total-is)
         by i false q = refl
 
@@ -95,7 +97,7 @@ module _ {p : Period} {c : DayCall} {room : ℕ} (s : Passes p c room) where
       top-is = is accts slices own
 
       pub top-part : top ≤ r .total
-      top-part = figures.top-part (held p) accts slices own sizable r found top top-is
+      top-part = figures.top-part (held p) accts slices sizable own r found top top-is
 
       pub written : flatMap (λ e. five e top (r .total)) (take (p .n) (r .each)) ≡ dailies (held p) accts
       written = rw (top-is, total-is) (are-dailies (held p) accts (r .each) (found .each accts slices own))
@@ -114,8 +116,8 @@ module _ (p : Period) (c : DayCall) (out : List ℕ) where
 
   pub day-accepted : callRefusal p c (length out) ≡ Clear
       → (t top highest : ℕ) (sums after : List ℕ)
-      → t ≡ total (held p) (accountsOf p c) → top ≡ maxEul (held p) (accountsOf p c) → highest ≡ max (p .highest) top
-      → sums ≡ map (λ i. getD (p .sums) i 0 + shareAt p c i) (range 0 32) → after ≡ dailies (held p) (accountsOf p c)
+      → t ≡ total (held p) (accountsBrought p c) → top ≡ maxEul (held p) (accountsBrought p c) → highest ≡ max (p .highest) top
+      → sums ≡ map (λ i. getD (p .sums) i 0 + shareAt p c i) (range 0 32) → after ≡ dailies (held p) (accountsBrought p c)
       → (_≡_ {A = Reply} (record { period = record { status = p .status; n = p .n; k = p .k; groups = p .groups; last = c .number; days = p .days + 1; highest = highest; sums = sums }; outcome = outcome.Sized t top }) (dayReply p c (length out))) × (after ≡ dayBuffer p c out)
   unfolding dayReply dayBuffer
   day-accepted e t top highest sums after a b h q w = (rw (e, q, h, a, b), rw (e, w))

@@ -19,7 +19,6 @@ use Rattle.quotient.specs.Ranges.{greatestTotal}
 use Rattle.validation.specs.Slices.{plainDay}
 use Rattle.period.specs.declared.Period.{Period}
 use Rattle.period.specs.declared.Reply.{Reply}
-use Rattle.period.specs.declared.Outcome.{Outcome}
 use Rattle.period.specs.declared.Outcome.the-variants as outcome
 
 abbrev pub freshPeriod : Period
@@ -34,7 +33,8 @@ brought n k groups = record { n = n; k = k; groups = groups }
 abbrev pub held : Period → Opening
 held p = record { n = p .n; k = p .k; groups = take (p .n) (p .groups) }
 
--- Whether a period's fields are in the ranges of an open one: an opening that row 1 lets pass, and sums of shares of D days.
+-- Whether a period's fields are in the ranges of an open one: the last accepted day number at most 31, D no more than that (day numbers
+-- rise from 1), M within the bound of every T, an opening that row 1 lets pass, each sum at most D shares of the whole.
 unfoldable pub inRange : Period → Bool
 inRange p =
     leb (p .last) 31
@@ -43,7 +43,8 @@ inRange p =
     && not (badOpening (held p))
     && not (any (ltb (p .days * scale)) (p .sums))
 
--- The status that counts. An open period that is out of range was returned by no call: it counts as not open.
+-- The status that counts. A period that is out of range counts as not open; `status-counts` in proofs/Reach.antt shows that this never
+-- decides for a period that calls returned, from a fresh one on.
 abbrev pub statusOf : Period → Status
 statusOf p = cond (inRange p) (p .status) Closed
 
@@ -91,14 +92,14 @@ dayCall number members numbers kinds npvs margins extras =
 abbrev pub dayOf : DayCall → DayInput
 dayOf c = plainDay (c .number) (c .members) (c .numbers) (c .kinds) (c .npvs) (c .margins) (c .extras)
 
-abbrev pub accountsOf : Period → DayCall → List Account
-accountsOf p c = accounts (p .k) (dayOf c)
+abbrev pub accountsBrought : Period → DayCall → List Account
+accountsBrought p c = accounts (p .k) (dayOf c)
 
 -- Row 4: "input lengths that disagree", of the three slices that make up the headings.
 abbrev pub headingsApart : DayCall → Bool
 headingsApart c = not (eqb (length (c .numbers)) (length (c .members))) || not (eqb (length (c .kinds)) (length (c .members)))
 
--- the refusal table of a day, with this part of row 4
+-- the refusal table of a day, with this part of row 4; `dayRefusal` tests row 2 again, to no effect
 unfoldable pub callRefusal : Period → DayCall → (room : ℕ) → Refusal
 callRefusal p c room =
     row 2 when not (isOpen (statusOf p)) else
@@ -108,7 +109,7 @@ callRefusal p c room =
 -- what an accepted day adds to the sum in place i: member i + 1's share
 abbrev pub shareAt : Period → DayCall → (i : ℕ) → ℕ
 shareAt p c i =
-    let accts = accountsOf p c in
+    let accts = accountsBrought p c in
     cond (ltb i (p .n)) (share (loss (p .k) accts (i + 1)) (total (held p) accts)) 0
 
 -- the period after it: M, D, the last accepted day number and the sums take the day in
@@ -121,7 +122,7 @@ sizedPeriod p c =
       groups = p .groups;
       last = c .number;
       days = p .days + 1;
-      highest = max (p .highest) (maxEul (held p) (accountsOf p c));
+      highest = max (p .highest) (maxEul (held p) (accountsBrought p c));
       sums = map (λ i. getD (p .sums) i 0 + shareAt p c i) (range 0 32);
     }
 
@@ -129,9 +130,9 @@ sizedPeriod p c =
 unfoldable pub dayReply : Period → DayCall → (room : ℕ) → Reply
 dayReply p c room =
     replyBy (callRefusal p c room)
-    (record { period = sizedPeriod p c; outcome = outcome.Sized (total (held p) (accountsOf p c)) (maxEul (held p) (accountsOf p c)) })
+    (record { period = sizedPeriod p c; outcome = outcome.Sized (total (held p) (accountsBrought p c)) (maxEul (held p) (accountsBrought p c)) })
     p
 
 -- and the buffer: "5 numbers a member", or as before
 unfoldable pub dayBuffer : Period → DayCall → (out : List ℕ) → List ℕ
-dayBuffer p c out = ifAccepted (callRefusal p c (length out)) (dailies (held p) (accountsOf p c)) out
+dayBuffer p c out = ifAccepted (callRefusal p c (length out)) (dailies (held p) (accountsBrought p c)) out

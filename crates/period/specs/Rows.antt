@@ -9,7 +9,7 @@ use Rattle.methodology.specs.declared.Refusal.the-variants.{Clear, Row, RowAt}
 use Rattle.methodology.specs.Account.{nobody}
 use Rattle.methodology.specs.Refusals.{isOpen, badLengths, badDayNumber, firstBadHeading, lastMissing, badAmount}
 use Rattle.period.specs.declared.Period.{Period}
-use Rattle.period.specs.Calls.{held, inRange, statusOf, DayCall, dayOf, accountsOf, callRefusal}
+use Rattle.period.specs.Calls.{held, inRange, statusOf, DayCall, dayOf, accountsBrought, callRefusal}
 
 -- no row before 7 is met
 pub record Passes (p : Period) (c : DayCall) (room : ℕ) : Type 0 where
@@ -21,7 +21,7 @@ pub record Passes (p : Period) (c : DayCall) (room : ℕ) : Type 0 where
   pub number : badDayNumber (p .last) (c .number) ≡ false
   pub headings : firstBadHeading (p .n) nobody (dayOf c .headings) ≡ length (dayOf c .headings)
   pub complete : lastMissing (p .n) (dayOf c .headings) ≡ false
-  pub amounts : firstWhere badAmount (accountsOf p c) ≡ length (dayOf c .headings)
+  pub amounts : firstWhere badAmount (accountsBrought p c) ≡ length (dayOf c .headings)
 
 -- `r` is what the table says by the rows before 7, and `Clear` where it is left to row 7
 pub record BeforeTotal (p : Period) (c : DayCall) (room : ℕ) (r : Refusal) : Type 0 where

@@ -18,7 +18,9 @@ ghost use lib.ListN.{length};
 ghost use Rattle.period.specs.Calls.{freshPeriod, brought, inRange, statusOf, openingReply, dayCall, dayReply, dayBuffer};
 ghost use Rattle.period.specs.Rows.{BeforeTotal};
 
-// What the calls of a period have left. Its fields are private: a period is a fresh one, or one that calls returned.
+// What the calls of a period have left. Its fields are private: a period is a fresh one, or one that calls returned. `last` is the last
+// accepted day number, `days` is D, `highest` is M; member i + 1 has its group number and the sum of its shares in place i, and past
+// member n stands 0.
 pub struct Period {
     status: Status,
     n: u64,
@@ -43,7 +45,7 @@ pub struct Reply {
     pub outcome: Outcome,
 }
 
-// The greatest total of a day, and so the greatest Max EUL: 256 accounts of at most 3 · 10^12 each.
+// No day's total, and so no Max EUL, is above this: 256 accounts of at most 3 · 10^12 each.
 const GREATEST_TOTAL: u64 = 768_000_000_000_000;
 
 fn is_open(status: Status) -> bool
@@ -85,7 +87,7 @@ impl Period {
         }
     }
 
-    // Whether every field is in the range that calls leave.
+    // Whether every field is in the range of an open period.
     fn in_range(self) -> bool
         ensures { λ r. ⌜ r ≡ inRange self ⌝ }
     {
@@ -106,7 +108,7 @@ impl Period {
         !sums_above(self.days * quotient::SCALE, sums)
     }
 
-    // The status that counts: a period that is out of range was returned by no call, and is not open.
+    // The status that counts: a period that is out of range counts as not open. No calls from a fresh one lead to an open one that is.
     fn status_of(self) -> Status
         ensures { λ r. ⌜ r ≡ statusOf self ⌝ }
     {

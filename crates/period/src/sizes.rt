@@ -28,7 +28,7 @@ pub fn bad_day_number(last: u64, number: u64) -> bool
     number <= last
 }
 
-// Whether row 4 is met, by the lengths of the slices: `count` headings, and so on.
+// Whether row 4 is met, by the number of headings, the lengths of the other slices and that of the buffer.
 pub fn bad_lengths(
     n: u64,
     k: u64,

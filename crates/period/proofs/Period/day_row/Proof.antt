@@ -12,7 +12,7 @@ use Rattle.validation.specs.Slices.{Lent}
 use Rattle.validation.specs.Rows.{Opened}
 use Rattle.validation.proofs.Headings.{headings-length}
 use Rattle.validation.proofs.Opening.{opening-leaves}
-use Rattle.period.specs.Calls.{held, statusOf, DayCall, dayCall, dayOf, accountsOf}
+use Rattle.period.specs.Calls.{held, statusOf, DayCall, dayCall, dayOf, accountsBrought}
 use Rattle.period.proofs.Ranges.{ranged, open-in-range}
 use Rattle.period.proofs.DayRows.{says-row, says-row-at, says-clear, lengths-are, lent, headings-le, amounts-le, row-2, row-3, row-4, row-4-numbers, row-4-kinds, row-5, row-5-missing, row-6}
 use Rattle.period.proofs.Period.day_row.Statement.{statement}
@@ -43,7 +43,7 @@ lengths-good c = lengths-are (start c .args .self) (call (start c)) (start c .ar
 count : (c : tie.Else4) → length (dayOf (call (start c)) .headings) ≡ length (start c .args .members .now)
 count c = headings-length (start c .args .members .now) (start c .args .numbers .now) (start c .args .kinds .now)
 
-amounts : (c : tie.Else4) → let s = start c in Lent (s .args .self .k) (s .args .kinds .now) (s .args .npvs .now) (s .args .margins .now) (s .args .extras .now) (accountsOf (s .args .self) (call s))
+amounts : (c : tie.Else4) → let s = start c in Lent (s .args .self .k) (s .args .kinds .now) (s .args .npvs .now) (s .args .margins .now) (s .args .extras .now) (accountsBrought (s .args .self) (call s))
 amounts c = lent (start c .args .self) (call (start c)) (start c .args .room) (same-kinds c) (lengths-good c)
 
 number-good : (c : tie.Else5) → let s = start (c .before .before) in badDayNumber (s .args .self .last) (s .args .number) ≡ false

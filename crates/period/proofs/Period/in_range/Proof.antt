@@ -1,6 +1,5 @@
 -- `in_range` meets its contract: each return is decided by the tests that led there.
 use borrow.Author.Needs.{needs}
-use mathlib.Core.Bool.{not}
 use mathlib.Core.Path.{sym, _∙_}
 use borrow.Author.Tests.{le-leb, lt-leb}
 use Rattle.period.specs.Calls.{inRange}

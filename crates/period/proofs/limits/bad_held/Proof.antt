@@ -1,3 +1,4 @@
+-- `bad_held` meets its contract: the part that is lent has n group numbers.
 use borrow.Author.Needs.{needs}
 use mathlib.Core.Path.{_≡_, sym}
 use lib.ListN.{length}
@@ -6,30 +7,22 @@ use native.Mathlib.Omega.{arith}
 use Rattle.period.proofs.Openings.{n-high}
 use Rattle.period.proofs.limits.bad_held.Statement.{statement}
 use Rattle.period.proofs.limits.bad_held.Tie as tie
-use Rattle.period.proofs.limits.bad_held.Reads as reads
-use Rattle.period.proofs.limits.bad_held.Lts as lts
-use Rattle.period.proofs.limits.bad_opening.Reads as bad-opening-reads
 
--- src/limits.rt:52:9
 returns : tie.Need-returns
 returns c = sym (n-high _ _ _ (c .if1 .taken))
 
--- src/limits.rt:54:23
 array-share-prefix-groups : tie.Need-array-share-prefix-groups
 array-share-prefix-groups c = search needs
 
--- src/limits.rt:54:23
 slice-aggregate-bad-opening : tie.Need-slice-aggregate-bad-opening
 slice-aggregate-bad-opening c =
     let a = c .before .before .args in
     let long : length (a .t3) ≡ 32 = search needs in
     sym (length-take-le (a .n) (a .t3) (omega (arith, c .before .if1 .left)))
 
--- src/limits.rt:54:5
 bad-opening-requires : tie.Need-bad-opening-requires
 bad-opening-requires c κs = search needs
 
--- src/limits.rt:48:1
 returns-2 : tie.Need-returns-2
 returns-2 c = search needs
 
