@@ -40,9 +40,9 @@ ranged p e =
     let (r₄, e₅) = both _ (not (any (ltb (p .days * scale)) (p .sums))) e in
     let (r₃, e₄) = both _ (not (badOpening (held p))) r₄ in
     let (r₂, e₃) = both _ (leb (p .highest) greatestTotal) r₃ in
-    let (e₁, e₂) = both (leb (p .last) 31) (leb (p .days) (p .last)) r₂ in
+    let (e₁, e₂) = both _ (leb (p .days) (p .last)) r₂ in
     record {
-      month = leb-true _ _ e₁;
+      month = omega (arith, leb-true (p .last) _ e₁);
       counted = leb-true _ _ e₂;
       bounded = leb-true _ _ e₃;
       opened = not-true _ e₄;
