@@ -1,6 +1,7 @@
 // An account's decrease and EUL.
+use numbers::greater;
 ghost use mathlib.Core.Path.{_≡_};
-ghost use Prim.Native.Nat.{_-_, _*_, _≤_, _<_, min, max};
+ghost use Prim.Native.Nat.{_-_, _≤_, _<_};
 ghost use lib.IntN.{natAbs, _-ℤ_};
 ghost use lib.ListN.{length};
 ghost use Rattle.numbers.specs.Signed.{_⁺};
@@ -8,20 +9,6 @@ ghost use Rattle.methodology.specs.Account.{largestDecrease, eulOf};
 ghost use Rattle.methodology.specs.Refusals.{limit};
 ghost use Rattle.exposure.specs.Ranges.{Npvs, Owed};
 ghost use Rattle.exposure.specs.Scenario.{fallUnder};
-
-// The greater of two.
-pub fn greater(a: u64, b: u64) -> u64
-    ensures { λ r. ⌜ r ≡ max a b ⌝ }
-{
-    if a < b { b } else { a }
-}
-
-// The lesser of two.
-pub fn lesser(a: u64, b: u64) -> u64
-    ensures { λ r. ⌜ r ≡ min a b ⌝ }
-{
-    if a < b { a } else { b }
-}
 
 // Base minus stress, or 0 where that is negative.
 fn decrease(base: i64, stress: i64) -> u64

@@ -1,11 +1,11 @@
 // A day's losses, T and Max EUL. A member's accounts are a part of the day's slices, since members come in rising order.
-use crate::account::greater;
 use crate::member::gain;
 use crate::member::member_eul;
 use crate::rows::add_row;
 use crate::rows::row_greatest;
 use crate::rows::rows_greatest;
 use crate::rows::scenario_row;
+use numbers::greater;
 ghost use mathlib.Core.Path.{_≡_};
 ghost use Prim.Native.Nat.{ℕ, _+_, _≤_, _<_};
 ghost use lib.ListN.{length, getD};

@@ -1,5 +1,5 @@
 // From a day's accounts, in plain slices, to each member's loss, T and Max EUL.
-pub mod account;
+mod account;
 pub mod day;
 mod member;
 mod rows;

@@ -1,12 +1,12 @@
 // A member's EUL, in one pass over its accounts: no account's EUL is kept.
 use crate::account::eul;
 use crate::account::fall;
-use crate::account::greater;
-use crate::account::lesser;
+use numbers::greater;
+use numbers::lesser;
 ghost use mathlib.Core.Path.{_≡_};
 ghost use mathlib.Core.Bool.{cond};
 ghost use mathlib.Core.List.{[]};
-ghost use Prim.Native.Nat.{_*_, _≤_};
+ghost use Prim.Native.Nat.{_+_, _*_, _/_, _≤_};
 ghost use lib.Dec.{eqb};
 ghost use lib.IntN.{natAbs};
 ghost use Rattle.numbers.specs.Signed.{_⁺};
@@ -21,6 +21,13 @@ pub fn gain(eul: i64) -> u64
     ensures { λ r. ⌜ r ≡ eul ⁺ ⌝ }
 {
     if 0 < eul { eul as u64 } else { 0 }
+}
+
+// Half of x, a half dollar up.
+fn half_up(x: u64) -> u64
+    ensures { λ r. ⌜ r ≡ (x + 1) / 2 ⌝ }
+{
+    x / 2 + x % 2
 }
 
 // A client's positive EUL where its kind is R, else 0.
@@ -82,7 +89,7 @@ impl Tally {
         let first = self.first;
         let second = self.second;
         let others = self.others;
-        house + (greater((clients + 1) / 2, first + second) + others) as i64
+        house + (greater(half_up(clients), first + second) + others) as i64
     }
 }
 

@@ -1,7 +1,7 @@
 // EULs by scenario: a member's row, group rows, and the greatest of them.
-use crate::account::greater;
 use crate::member::gain;
 use crate::member::member_eul;
+use numbers::greater;
 ghost use mathlib.Core.Path.{_≡_};
 ghost use mathlib.Core.List.{[]};
 ghost use Prim.Native.Nat.{_≤_};

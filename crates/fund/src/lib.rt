@@ -9,7 +9,7 @@ ghost use Rattle.methodology.specs.Contribution.{charge, funded, three};
 ghost use Rattle.quotient.specs.Ranges.{Loss, Charge, greatestTotal};
 
 // One member's five daily numbers, at the front of out: its loss is e, the total t, the day's Max EUL max.
-pub fn write_five(e: u64, max: u64, t: u64, out: &mut [u64])
+fn write_five(e: u64, max: u64, t: u64, out: &mut [u64])
     requires { ⌜ Loss e t × (max ≤ t) ⌝ }
     requires { ⌜ 5 ≤ length (now out) ⌝ }
     ensures { λ _. ⌜ now (out .exit) ≡ five e max t ++ drop 5 (now (out .entry)) ⌝ }
@@ -46,7 +46,7 @@ fn at_least_minimum(raw: u64) -> u64
 }
 
 // One member's raw charge, funded and unfunded contribution, at the front of out. The funded one is returned.
-pub fn write_three(raw: u64, out: &mut [u64]) -> u64
+fn write_three(raw: u64, out: &mut [u64]) -> u64
     requires { ⌜ raw ≤ 2 * greatestTotal ⌝ }
     requires { ⌜ 3 ≤ length (now out) ⌝ }
     ensures { λ r. ⌜ r ≡ funded raw ⌝ }

@@ -1,7 +1,7 @@
 -- Tests: what one that failed rules out, and two tests that agree.
 use mathlib.Core.Path.{_≡_, refl, sym, _∙_}
 use mathlib.Core.Bool.{Bool, true, false, not, _&&_, _||_, true≢false}
-use mathlib.Mathlib.Data.Bool.Basic.{or-eq-false-eq-eq-false-and-eq-false}
+use mathlib.Mathlib.Data.Bool.Basic.{and-eq-true-eq-eq-true-and-eq-true, or-eq-false-eq-eq-false-and-eq-false}
 use Prim.Native.Nat.{ℕ, _≤_, _<_}
 use native.Mathlib.Omega.{arith}
 use lib.Dec.{leb, ltb}
@@ -12,8 +12,7 @@ pub neither : (s t : Bool) → (s || t) ≡ false → (s ≡ false) × (t ≡ fa
 neither s t = or-eq-false-eq-eq-false-and-eq-false s t .0
 
 pub both : (s t : Bool) → (s && t) ≡ true → (s ≡ true) × (t ≡ true)
-both true t e = (refl, e)
-both false t e = absurd (true≢false (sym e))
+both s t = and-eq-true-eq-eq-true-and-eq-true s t .0
 
 -- a test that would hold if a were less
 pub not-less : (a b : ℕ) {t : Bool} → (a < b → true ≡ t) → t ≡ false → b ≤ a

@@ -17,38 +17,9 @@ use Rattle.validation.proofs.Headings.{headings-length, bad-heading-le}
 use Rattle.validation.proofs.Day.{sized, accounts-lent, accounts-length}
 use Rattle.period.specs.declared.Period.{Period}
 use Rattle.period.specs.Calls.{held, statusOf, DayCall, dayOf, accountsBrought, callRefusal}
-use Rattle.period.specs.Rows.{Passes, BeforeTotal}
-
--- the three forms of a refusal are apart
-row-clear : {number : ℕ} → Row number ≡ Clear → ⊥
-row-clear e = let z : _≡_ {A = ℕ} 0 1 = cc in omega arith
-
-row-at-clear : {number index : ℕ} → RowAt number index ≡ Clear → ⊥
-row-at-clear e = let z : _≡_ {A = ℕ} 0 1 = cc in omega arith
-
-row-row-at : {number m index : ℕ} → Row number ≡ RowAt m index → ⊥
-row-row-at e = let z : _≡_ {A = ℕ} 0 1 = cc in omega arith
-
-row-at-row : {number index m : ℕ} → RowAt number index ≡ Row m → ⊥
-row-at-row e = let z : _≡_ {A = ℕ} 0 1 = cc in omega arith
-
-clear-row : {number : ℕ} → Clear ≡ Row number → ⊥
-clear-row e = let z : _≡_ {A = ℕ} 0 1 = cc in omega arith
-
-clear-row-at : {number index : ℕ} → Clear ≡ RowAt number index → ⊥
-clear-row-at e = let z : _≡_ {A = ℕ} 0 1 = cc in omega arith
+use Rattle.period.specs.Rows.{Passes}
 
 module _ (p : Period) (c : DayCall) (room : ℕ) where
-  -- what a program says by the rows before 7
-  pub says-row : {number : ℕ} → callRefusal p c room ≡ Row number → BeforeTotal p c room (Row number)
-  says-row e = record { row = λ m q. e ∙ q; row-at = λ m i q. absurd (row-row-at q); clear = λ q. absurd (row-clear q) }
-
-  pub says-row-at : {number index : ℕ} → callRefusal p c room ≡ RowAt number index → BeforeTotal p c room (RowAt number index)
-  says-row-at e = record { row = λ m q. absurd (row-at-row q); row-at = λ m i q. e ∙ q; clear = λ q. absurd (row-at-clear q) }
-
-  pub says-clear : Passes p c room → BeforeTotal p c room Clear
-  says-clear s = record { row = λ m q. absurd (clear-row q); row-at = λ m i q. absurd (clear-row-at q); clear = λ q. s }
-
   -- row 4 by the lengths alone
   pub lengths-are :
       badLengths (held p) (dayOf c) room

@@ -23,8 +23,8 @@ pub record Passes (p : Period) (c : DayCall) (room : ℕ) : Type 0 where
   pub complete : lastMissing (p .n) (dayOf c .headings) ≡ false
   pub amounts : firstWhere badAmount (accountsBrought p c) ≡ length (dayOf c .headings)
 
--- `r` is what the table says by the rows before 7, and `Clear` where it is left to row 7
-pub record BeforeTotal (p : Period) (c : DayCall) (room : ℕ) (r : Refusal) : Type 0 where
-  pub row : (number : ℕ) → r ≡ Row number → callRefusal p c room ≡ Row number
-  pub row-at : (number index : ℕ) → r ≡ RowAt number index → callRefusal p c room ≡ RowAt number index
-  pub clear : r ≡ Clear → Passes p c room
+-- what the rows before 7 say is what the table says; `Clear` leaves it to row 7
+abbrev pub BeforeTotal : Period → DayCall → (room : ℕ) → Refusal → Type 0
+BeforeTotal p c room Clear = Passes p c room
+BeforeTotal p c room (Row number) = callRefusal p c room ≡ Row number
+BeforeTotal p c room (RowAt number index) = callRefusal p c room ≡ RowAt number index

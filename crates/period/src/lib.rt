@@ -255,7 +255,7 @@ impl Period {
                 fund::write_dailies(each, n, top, total, out);
                 let old = self.sums;
                 let sums = with_shares(old, each, n, total);
-                let highest = exposure::account::greater(self.highest, top);
+                let highest = numbers::greater(self.highest, top);
                 let days = self.days + 1;
                 let period = Period {
                     last: number,

@@ -1,10 +1,12 @@
 -- `day` meets its contract: the refusal of `day_row`, row 7 by the total that was found, or the reply and the buffer of `Sizing`.
 use borrow.Author.Needs.{needs}
-use mathlib.Core.Path.{sym, _∙_}
+use mathlib.Core.Path.{_≡_, sym, subst, _∙_}
 use native.Mathlib.Omega.{arith}
 use lib.ListN.{length}
+use Rattle.methodology.specs.declared.Refusal.{Refusal}
+use Rattle.methodology.specs.declared.Refusal.the-variants.{Clear, Row, RowAt}
 use Rattle.period.specs.Calls.{DayCall, dayCall}
-use Rattle.period.specs.Rows.{Passes}
+use Rattle.period.specs.Rows.{Passes, BeforeTotal}
 use Rattle.period.proofs.DayRows.{row-7, none}
 use Rattle.period.proofs.Sizing.{in-range, members-few, room-long, sizable, groups-fit, sums-fit, total-is, part, shares, top-is, top-part, written, day-refused, day-refused-at, day-accepted}
 use Rattle.period.proofs.Period.day.Statement.{statement}
@@ -13,9 +15,14 @@ use Rattle.period.proofs.Period.day.Tie as tie
 abbrev call : tie.Start → DayCall
 call s = dayCall (s .args .number) (s .args .members .now) (s .args .numbers .now) (s .args .kinds .now) (s .args .npvs .now) (s .args .margins .now) (s .args .extras .now)
 
--- the arm in which no row before 7 is met
+-- what `day_row` said, in each arm
+told : (c : tie.After-day-row) (r : Refusal) → c .day-row .result ≡ r → let s = c .before .before .before .before .before .before .before in BeforeTotal (s .args .self) (call s) (length (s .args .out .now)) r
+told c r e =
+    let s = c .before .before .before .before .before .before .before in
+    subst (λ (x : Refusal). BeforeTotal (s .args .self) (call s) (length (s .args .out .now)) x) e (c .day-row .ensures)
+
 passes : (c : tie.After-enum-told) → let s = c .before .before .before .before .before .before .before .before .before in Passes (s .args .self) (call s) (length (s .args .out .now))
-passes c = c .before .before .day-row .ensures .clear (c .enum-told .given .1)
+passes c = told (c .before .before) Clear (c .enum-told .given .1)
 
 day-row-requires : tie.Need-day-row-requires
 day-row-requires c κs = search needs
@@ -75,10 +82,10 @@ returns-2 c =
     day-accepted _ _ _ (none s (λ e. c .before .before .before .before .before .before .before .before .before .before .before .before .if1 .left (total-is s _ f ∙ e))) _ _ _ _ _ (total-is s _ f) (top-is s _ f _ x) (c .before .before .greater .ensures) (c .before .before .before .with-shares .ensures ∙ shares s _ f) (c .before .before .before .before .before .before .before .write-dailies .ensures ∙ written s _ f _ x)
 
 returns-3 : tie.Need-returns-3
-returns-3 c = day-refused _ _ _ _ (c .before .before .before .day-row .ensures .row _ (c .before .row .given .1))
+returns-3 c = day-refused _ _ _ _ (told (c .before .before .before) (Row _) (c .before .row .given .1))
 
 returns-4 : tie.Need-returns-4
-returns-4 c = day-refused-at _ _ _ _ _ (c .before .before .before .day-row .ensures .row-at _ _ (c .before .row2 .given .1))
+returns-4 c = day-refused-at _ _ _ _ _ (told (c .before .before .before) (RowAt _ _) (c .before .row2 .given .1))
 
 pub day-spec : {M : Type 1} → statement M
 day-spec =

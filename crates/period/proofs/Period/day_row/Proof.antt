@@ -14,7 +14,7 @@ use Rattle.validation.proofs.Headings.{headings-length}
 use Rattle.validation.proofs.Opening.{opening-leaves}
 use Rattle.period.specs.Calls.{held, statusOf, DayCall, dayCall, dayOf, accountsBrought}
 use Rattle.period.proofs.Ranges.{ranged, open-in-range}
-use Rattle.period.proofs.DayRows.{says-row, says-row-at, says-clear, lengths-are, lent, headings-le, amounts-le, row-2, row-3, row-4, row-4-numbers, row-4-kinds, row-5, row-5-missing, row-6}
+use Rattle.period.proofs.DayRows.{lengths-are, lent, headings-le, amounts-le, row-2, row-3, row-4, row-4-numbers, row-4-kinds, row-5, row-5-missing, row-6}
 use Rattle.period.proofs.Period.day_row.Statement.{statement}
 use Rattle.period.proofs.Period.day_row.Tie as tie
 
@@ -64,13 +64,13 @@ is-open-requires : tie.Need-is-open-requires
 is-open-requires c κs = search needs
 
 returns : tie.Need-returns
-returns c = says-row _ _ _ (row-2 _ _ _ (ap isOpen (sym (c .before .before .status-of .ensures)) ∙ sym (c .before .is-open .ensures) ∙ not-true _ (c .if1 .taken)))
+returns c = row-2 _ _ _ (ap isOpen (sym (c .before .before .status-of .ensures)) ∙ sym (c .before .is-open .ensures) ∙ not-true _ (c .if1 .taken))
 
 returns-2 : tie.Need-returns-2
-returns-2 c = says-row _ _ _ (row-4-numbers _ _ _ (opened (c .before)) (c .if2 .taken))
+returns-2 c = row-4-numbers _ _ _ (opened (c .before)) (c .if2 .taken)
 
 returns-3 : tie.Need-returns-3
-returns-3 c = says-row _ _ _ (row-4-kinds _ _ _ (opened (c .before .before)) (c .before .if2 .left) (c .if3 .taken))
+returns-3 c = row-4-kinds _ _ _ (opened (c .before .before)) (c .before .if2 .left) (c .if3 .taken)
 
 bad-lengths-requires : tie.Need-bad-lengths-requires
 bad-lengths-requires c κs =
@@ -81,7 +81,7 @@ returns-4 : tie.Need-returns-4
 returns-4 c =
     let e = c .before .before in
     let s = e .before .before .before .before .before .before .before .before .before .before in
-    says-row _ _ _ (row-4 _ _ _ (opened (e .before .before)) (e .before .if2 .left) (e .if3 .left) (lengths-are (s .args .self) (call s) (s .args .room) ∙ sym (c .before .bad-lengths .ensures) ∙ c .if4 .taken))
+    row-4 _ _ _ (opened (e .before .before)) (e .before .if2 .left) (e .if3 .left) (lengths-are (s .args .self) (call s) (s .args .room) ∙ sym (c .before .bad-lengths .ensures) ∙ c .if4 .taken)
 
 bad-day-number-requires : tie.Need-bad-day-number-requires
 bad-day-number-requires c κs = search needs
@@ -89,7 +89,7 @@ bad-day-number-requires c κs = search needs
 returns-5 : tie.Need-returns-5
 returns-5 c =
     let e = c .before .before in
-    says-row _ _ _ (row-3 _ _ _ (opened (e .before .before .before .before)) (same-numbers e) (same-kinds e) (lengths-good e) (sym (c .before .bad-day-number .ensures) ∙ c .if5 .taken))
+    row-3 _ _ _ (opened (e .before .before .before .before)) (same-numbers e) (same-kinds e) (lengths-good e) (sym (c .before .bad-day-number .ensures) ∙ c .if5 .taken)
 
 first-bad-heading-requires : tie.Need-first-bad-heading-requires
 first-bad-heading-requires c κs = (same-numbers (c .before .before), same-kinds (c .before .before))
@@ -98,7 +98,7 @@ returns-6 : tie.Need-returns-6
 returns-6 c =
     let e = c .before .before .before .before in
     let b = c .before .first-bad-heading .ensures in
-    says-row-at _ _ _ (row-5 _ _ _ (opened (e .before .before .before .before)) (same-numbers e) (same-kinds e) (lengths-good e) (number-good (c .before .before)) (omega (arith, b, c .if6 .taken, count e)) ∙ ap (RowAt 5) (sym b))
+    row-5 _ _ _ (opened (e .before .before .before .before)) (same-numbers e) (same-kinds e) (lengths-good e) (number-good (c .before .before)) (omega (arith, b, c .if6 .taken, count e)) ∙ ap (RowAt 5) (sym b)
 
 last-missing-requires : tie.Need-last-missing-requires
 last-missing-requires c κs = search needs
@@ -107,7 +107,7 @@ returns-7 : tie.Need-returns-7
 returns-7 c =
     let e = c .before .before .before .before .before .before in
     let b = headings-good (c .before .before) in
-    says-row-at _ _ _ (row-5-missing _ _ _ (opened (e .before .before .before .before)) (same-numbers e) (same-kinds e) (lengths-good e) (number-good (c .before .before .before .before)) b (sym (c .before .last-missing .ensures _ _) ∙ c .if7 .taken) ∙ ap (RowAt 5) (count e))
+    row-5-missing _ _ _ (opened (e .before .before .before .before)) (same-numbers e) (same-kinds e) (lengths-good e) (number-good (c .before .before .before .before)) b (sym (c .before .last-missing .ensures _ _) ∙ c .if7 .taken) ∙ ap (RowAt 5) (count e)
 
 first-bad-amount-requires : tie.Need-first-bad-amount-requires
 first-bad-amount-requires c κs =
@@ -119,15 +119,14 @@ returns-8 : tie.Need-returns-8
 returns-8 c =
     let e = c .before .before .before .before .before .before .before .before in
     let b = c .before .first-bad-amount .ensures _ (amounts e .amounts) in
-    says-row-at _ _ _ (row-6 _ _ _ (opened (e .before .before .before .before)) (same-numbers e) (same-kinds e) (lengths-good e) (number-good (c .before .before .before .before .before .before)) (headings-good (c .before .before .before .before)) (complete (c .before .before)) (omega (arith, b, c .if8 .taken, count e)) ∙ ap (RowAt 6) (sym b))
+    row-6 _ _ _ (opened (e .before .before .before .before)) (same-numbers e) (same-kinds e) (lengths-good e) (number-good (c .before .before .before .before .before .before)) (headings-good (c .before .before .before .before)) (complete (c .before .before)) (omega (arith, b, c .if8 .taken, count e)) ∙ ap (RowAt 6) (sym b)
 
 returns-9 : tie.Need-returns-9
 returns-9 c =
     let e = c .before .before .before .before .before .before .before .before in
     let o = opened (e .before .before .before .before) in
     let b = c .before .first-bad-amount .ensures _ (amounts e .amounts) in
-    says-clear _ _ _
-    (record { in-range = open-in-range _ o; opened = o; numbers-long = same-numbers e; kinds-long = same-kinds e; lengths = lengths-good e; number = number-good (c .before .before .before .before .before .before); headings = headings-good (c .before .before .before .before); complete = complete (c .before .before); amounts = omega (arith, b, c .if8 .left, count e, amounts-le (start e .args .self) (call (start e)) 0) })
+    record { in-range = open-in-range _ o; opened = o; numbers-long = same-numbers e; kinds-long = same-kinds e; lengths = lengths-good e; number = number-good (c .before .before .before .before .before .before); headings = headings-good (c .before .before .before .before); complete = complete (c .before .before); amounts = omega (arith, b, c .if8 .left, count e, amounts-le (start e .args .self) (call (start e)) 0) }
 
 pub day-row-spec : {M : Type 1} → statement M
 day-row-spec =

@@ -11,11 +11,11 @@ use Rattle.exposure.proofs.Tallies.{house-fits, total-fits, ended}
 use Rattle.exposure.proofs.member.Tally.eul.Statement.{statement}
 use Rattle.exposure.proofs.member.Tally.eul.Tie as tie
 
+half-up-requires : tie.Need-half-up-requires
+half-up-requires c κs = search needs
+
 add-greater : tie.Need-add-greater
 add-greater c = search needs
-
-add-greater-2 : tie.Need-add-greater-2
-add-greater-2 c = search needs
 
 greater-requires : tie.Need-greater-requires
 greater-requires c κs = search needs
@@ -27,26 +27,26 @@ cast-result : tie.Need-cast-result
 cast-result c = search needs
 
 -- what is added to the house EUL is below 2^63
-fits : (c : tie.After-greater) → c .greater .result + c .before .before .args .self .others < 2 ^ 63
+fits : (c : tie.After-greater) → c .greater .result + c .before .before .before .args .self .others < 2 ^ 63
 fits c = omega arith
 
 -- and the sum fits
-sum-fits : (c : tie.After-greater) → SFits w64 (c .before .before .args .self .house +ℤ pos (c .greater .result + c .before .before .args .self .others))
-sum-fits c = simp (c .greater .ensures) (total-fits _ (c .before .before .pre))
+sum-fits : (c : tie.After-greater) → SFits w64 (c .before .before .before .args .self .house +ℤ pos (c .greater .result + c .before .before .before .args .self .others))
+sum-fits c = simp (c .greater .ensures, c .before .half-up .ensures) (total-fits _ (c .before .before .before .pre))
 
 add-result-2 : tie.Need-add-result-2
-add-result-2 c = simp (back (house-fits (c .before .before .pre)), toZ-pos w64 _ (fits c)) (sum-fits c)
+add-result-2 c = simp (back (house-fits (c .before .before .before .pre)), toZ-pos w64 _ (fits c)) (sum-fits c)
 
 returns : tie.Need-returns
 returns c =
-    simp (back (house-fits (c .before .before .pre)), toZ-pos w64 _ (fits c), back (sum-fits c)) (simp (c .greater .ensures) (ended _))
+    simp (back (house-fits (c .before .before .before .pre)), toZ-pos w64 _ (fits c), back (sum-fits c)) (simp (c .greater .ensures, c .before .half-up .ensures) (ended _))
 
 pub eul-spec : {M : Type 1} → statement M
 eul-spec =
     tie.close
     (tie.spec
+    half-up-requires
     add-greater
-    add-greater-2
     greater-requires
     add-result
     cast-result
