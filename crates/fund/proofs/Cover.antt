@@ -1,14 +1,14 @@
 -- The fund covers 110% of the highest Max EUL and hardly more: how close raw charges are to exact ones, one by one and together.
 -- A share is rounded up, by less than 1: so a member's shares are near the exact ones, which make its charge, and a day's are near the scale.
-use mathlib.Core.Path.{_≡_, sym, subst, _∙_}
-use mathlib.Core.List.{List, _∷_, List·Memᴰ·head as here, List·Memᴰ·tail as there}
+use mathlib.Core.Path.{_≡_, _∙_}
+use mathlib.Core.List.{List}
 use Prim.Native.Nat.{ℕ, _+_, _*_, _≤_, _<_}
 use native.Mathlib.Nat.{mul-pos}
 use native.Mathlib.Omega.{arith}
 use lib.ListN.{length}
 use Rattle.numbers.specs.Sums.{Σ}
 use Rattle.numbers.specs.Fractions.{Fraction, _over_, whole, Proper, _⊕_, _⊗_, _≼_, _≺_, Σᶠ}
-use Rattle.numbers.proofs.Lists.{_∈_, range-length}
+use Rattle.numbers.proofs.Lists.{_∈_, range-length, every-mem}
 use Rattle.numbers.proofs.Sums.{Σ-add, Σ-eq, Σ-bound, Σ-least, Σ-elem, Σ-swap}
 use Rattle.numbers.proofs.Fractions.{Σᶠ-proper}
 use Rattle.numbers.proofs.RoundedUp.{Σᶠ-ceil-above, Σᶠ-ceil-below, parts-above, parts-below}
@@ -26,8 +26,7 @@ scale-pos = omega arith
 
 -- `Counted` as the laws of lists ask for it
 pub counted-at : (o : Opening) (days : List KeptDay) → Counted o days → (d : KeptDay) → d ∈ days → 0 < total o (d .accounts)
-counted-at o (x ∷ days) c d (here e) = subst (λ (y : KeptDay). 0 < total o (y .accounts)) (sym e) (c .0)
-counted-at o (x ∷ days) c d (there i) = counted-at o days (c .1) d i
+counted-at o days c d i = every-mem (λ (d : KeptDay). 0 < total o (d .accounts)) days c d i
 
 -- the "sum of the member's e/T over these days", with nothing rounded
 abbrev exactShares : Opening → List KeptDay → (m : ℕ) → Fraction

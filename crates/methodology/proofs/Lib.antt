@@ -1,3 +1,4 @@
 pub mod Samples
 pub mod Figures
 pub mod WorkedCalls
+pub mod Passed

@@ -91,8 +91,8 @@ answerBy (RowAt number index) figures = refusedAt number index
 
 -- the answer to a call
 unfoldable pub answer : Register → Call → Answer
-answer g c = answerBy (refusal g c) (returned (accept g c) c)
+answer g c = answerBy (refusal g c) (returned (step g c) c)
 
 -- The lent buffer after a call, from that before it, which is `room` long. A refused call leaves "period, buffers as before".
 unfoldable pub buffer : Register → Call → (before : List ℕ) → List ℕ
-buffer g c before = ifAccepted (refusal g c) (written (accept g c) c) before
+buffer g c before = ifAccepted (refusal g c) (written (step g c) c) before

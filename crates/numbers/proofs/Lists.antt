@@ -2,7 +2,7 @@
 -- A law about each element takes a function on the members, `(x : A) → x ∈ xs → ..`; `by-index` makes one of a fact about each index.
 use mathlib.Core.Path.{_≡_, refl, sym, ap, ap₂, _∙_, subst}
 use mathlib.Core.Bool.{Bool, true, false, cond, _&&_, _||_, or-assoc, or-true, true≢false}
-use mathlib.Core.List.{List, [], _∷_, _++_, map, append-nil}
+use mathlib.Core.List.{List, [], _∷_, _++_, map, flatMap, append-nil}
 use mathlib.Core.List.{List·Memᴰ, List·Memᴰ·head as here, List·Memᴰ·tail as there, List·Memᴰ·not-nil}
 use Prim.Native.Nat.{ℕ, zero, suc, _+_, _-_, _≤_, _<_}
 use native.Mathlib.Omega.{arith}
@@ -12,7 +12,7 @@ use lib.Dec.{eqb}
 use lib.ListN.{length, getD, take, drop, set, replicate, length-map, length-drop, drop-of-length-le}
 use lib.Seq.{drop-cons, drop-drop, take-nil, drop-nil, take-take, getD-take, getD-drop, getD-set-same, getD-set-other, length-take-le, ext-getD}
 use borrow.Author.Tests.{eqb-true, eqb-false}
-use Rattle.numbers.specs.Lists.{range, keep, any, firstWhere}
+use Rattle.numbers.specs.Lists.{range, keep, any, firstWhere, Every}
 use Rattle.numbers.proofs.Tests.{neither}
 
 infix 50 _∈_
@@ -374,3 +374,25 @@ module _ {A : Type 0} (p : A → Bool) where
   pub first-end : (xs : List A) (i : ℕ) → length xs ≤ i → firstWhere p xs ≡ i + firstWhere p (drop i xs) → firstWhere p xs ≡ i
   unfolding firstWhere
   first-end xs i h e = rw (drop-of-length-le xs h, add-zero) at e
+
+-- what every element has, a member has; and back
+pub every-mem : {A : Type 0} (P : A → Type 0) (xs : List A) → Every P xs → (x : A) → x ∈ xs → P x
+every-mem P (y ∷ ys) h x (here e) = subst P (sym e) (h .0)
+every-mem P (y ∷ ys) h x (there i) = every-mem P ys (h .1) x i
+
+pub mem-every : {A : Type 0} (P : A → Type 0) (xs : List A) → ((x : A) → x ∈ xs → P x) → Every P xs
+mem-every P [] f = tt
+mem-every P (x ∷ xs) f = (f x (here refl), mem-every P xs (λ y i. f y (there i)))
+
+pub every-map : {A B : Type 0} (P : B → Type 0) (f : A → B) (xs : List A) → ((x : A) → x ∈ xs → P (f x)) → Every P (map f xs)
+every-map P f [] h = tt
+every-map P f (x ∷ xs) h = (h x (here refl), every-map P f xs (λ y i. h y (there i)))
+
+pub every-append : {A : Type 0} (P : A → Type 0) (xs ys : List A) → Every P xs → Every P ys → Every P (xs ++ ys)
+every-append P [] ys h k = k
+every-append P (x ∷ xs) ys h k = (h .0, every-append P xs ys (h .1) k)
+
+pub every-flatMap : {A B : Type 0} (P : B → Type 0) (f : A → List B) (xs : List A) → ((x : A) → x ∈ xs → Every P (f x)) → Every P (flatMap f xs)
+unfolding flatMap
+every-flatMap P f [] h = tt
+every-flatMap P f (x ∷ xs) h = every-append P (f x) (flatMap f xs) (h x (here refl)) (every-flatMap P f xs (λ y i. h y (there i)))

@@ -1,6 +1,8 @@
 mod Openings
-mod Replies
-mod Ranges
+pub mod Replies
+pub mod Ranges
 mod DayRows
-mod Sizing
+pub mod Sizing
+pub mod Closings
 pub mod Reach
+pub mod Simulation

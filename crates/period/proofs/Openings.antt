@@ -10,7 +10,7 @@ use borrow.Author.Tests.{lt-ltb, le-ltb}
 use Rattle.numbers.specs.Lists.{any}
 use Rattle.numbers.proofs.Lists.{replicate-at}
 use Rattle.methodology.specs.Refusals.{outside, badOpening}
-use Rattle.period.specs.Calls.{brought}
+use Rattle.period.specs.Reading.{brought}
 
 -- an array of 32 places with 0 past the last group number
 pub none-left : (groups : List ℕ) (i x : ℕ) → length groups ≤ i → i ≤ x → getD (replicate 32 0) x 0 ≡ getD groups x 0

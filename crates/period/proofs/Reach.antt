@@ -1,6 +1,7 @@
 -- Every period that calls return is in range while it is open: the range test never decides, and row 2 reads as document 01 has it.
 -- By the last call: an opening sets every field, a day that the table lets pass keeps each within its limit, a refusal leaves all.
-use mathlib.Core.Path.{_≡_, refl, sym, _∙_}
+use mathlib.Core.Path.{_≡_, refl, sym, subst, _∙_}
+use mathlib.Core.List.{List, []}
 use mathlib.Core.Bool.{Bool, true, false, not, _||_, cond, true≢false}
 use Prim.Native.Nat.{ℕ, _+_, _*_, _≤_, _<_, max}
 use native.Mathlib.Omega.{arith}
@@ -14,45 +15,59 @@ use Rattle.methodology.specs.declared.Refusal.{Refusal}
 use Rattle.methodology.specs.declared.Refusal.the-variants.{Clear, Row, RowAt}
 use Rattle.methodology.specs.declared.Status.{Status}
 use Rattle.methodology.specs.declared.Status.the-variants.{Fresh, Open, Closed}
-use Rattle.methodology.specs.Account.{Opening, nobody}
+use Rattle.methodology.specs.Account.{Opening, DayInput, nobody}
 use Rattle.methodology.specs.Member.{loss}
 use Rattle.methodology.specs.Day.{total, maxEul, scale, share}
 use Rattle.methodology.specs.Refusals.{isOpen, outside, badOpening, openingRefusal, badLengths, badDayNumber, firstBadHeading, lastMissing, badAmount, dayRefusal}
+use Rattle.methodology.specs.Register.{ifAccepted}
+use Rattle.methodology.proofs.Passed.{passed, passed-at}
 use Rattle.quotient.specs.Ranges.{greatestTotal}
 use Rattle.quotient.proofs.Bounds.{share-le}
 use Rattle.exposure.proofs.MaxTotal.{loss-le-total, max-le-total}
 use Rattle.validation.proofs.Headings.{headings-length, bad-heading-le}
 use Rattle.validation.proofs.Opening.{opening-leaves}
 use Rattle.period.specs.declared.Period.{Period}
-use Rattle.period.specs.declared.Outcome.the-variants as outcome
-use Rattle.period.specs.Calls.{freshPeriod, held, inRange, statusOf, openedPeriod, openingReply, DayCall, dayOf, accountsBrought, headingsApart, callRefusal, shareAt, sizedPeriod, dayReply, replyBy}
+use Rattle.period.specs.declared.Reply.{Reply}
+use Rattle.period.specs.Reading.{DayCall, dayOf, headingsApart, dayBrought}
+use Rattle.period.specs.Calls.{freshPeriod, held, inRange, statusOf, openingRow, openedPeriod, OpeningMeets, accountsBrought, dayRow, shareAt, sizedPeriod, DayMeets, closingRow, closedPeriod, ClosingMeets}
 use Rattle.period.specs.Rows.{Passes}
-use Rattle.period.proofs.Replies.{passed, passed-at}
 use Rattle.period.proofs.Ranges.{open-in-range}
 use Rattle.period.proofs.DayRows.{amounts-le}
 use Rattle.period.proofs.Sizing.{in-range, total-few}
 
 -- an opening
-held-opened : (o : Opening) → badOpening o ≡ false → held (openedPeriod o) .groups ≡ o .groups
-held-opened o e =
-    let l = opening-leaves o e in
-    table-take (λ i. getD (o .groups) i 0) 0 32 (o .n) 0 (l .members-few)
-    ∙ sym (rw (l .groups-long) at (own-table (o .groups) 0))
+pub held-opened : (o : Opening) → length (o .groups) ≡ o .n → o .n ≤ 32 → held (openedPeriod o) .groups ≡ o .groups
+held-opened o long few =
+    table-take (λ i. getD (o .groups) i 0) 0 32 (o .n) 0 few ∙ sym (rw long at (own-table (o .groups) 0))
 
 opened-in-range : (o : Opening) → badOpening o ≡ false → inRange (openedPeriod o) ≡ true
 unfolding inRange any
-opened-in-range o e = rw (held-opened o e, e)
+opened-in-range o e =
+    let l = opening-leaves o e in
+    rw (held-opened o (l .groups-long) (l .members-few), e)
 
--- a day: what a table that lets it pass says of its rows
-pub passes : (p : Period) (c : DayCall) (room : ℕ) → callRefusal p c room ≡ Clear → Passes p c room × (0 < total (held p) (accountsBrought p c))
-unfolding callRefusal dayRefusal
+-- a day, by whether its slices of headings are apart
+abbrev dayBy : DayCall → Bool → DayInput
+dayBy c b = record { number = c .number; headings = cond b [] (dayOf c .headings); npvs = c .npvs; margins = c .margins; extras = c .extras }
+
+-- a table that lets it pass has found slices of one length, and so the day in them
+pub together : (p : Period) (c : DayCall) (room : ℕ) → dayRow p c room ≡ Clear → (headingsApart c ≡ false) × (dayRefusal (statusOf p) (held p) (p .last) (dayOf c) room ≡ Clear)
+unfolding dayRow dayBrought dayRefusal badLengths
+together p c room e = by (headingsApart c) e
+  where
+    by : (b : Bool) → dayRefusal (statusOf p) (held p) (p .last) (dayBy c b) room ≡ Clear → (b ≡ false) × (dayRefusal (statusOf p) (held p) (p .last) (dayOf c) room ≡ Clear)
+    by true e = absurd (true≢false (passed 4 (badLengths (held p) (dayBy c true) room) _ (passed 2 (not (isOpen (statusOf p))) _ e .1) .0))
+    by false e = (refl, e)
+
+-- what it says of each row
+pub passes : (p : Period) (c : DayCall) (room : ℕ) → dayRow p c room ≡ Clear → Passes p c room × (0 < total (held p) (accountsBrought p c))
+unfolding dayRefusal
 passes p c room e =
     let hs = dayOf c .headings in
     let bad5 = firstBadHeading (p .n) nobody hs in
     let bad6 = firstWhere badAmount (accountsBrought p c) in
-    let (o, r₁) = passed 2 (not (isOpen (statusOf p))) _ e in
-    let (h, r₂) = passed 4 (headingsApart c) _ r₁ in
-    let (_, r₃) = passed 2 (not (isOpen (statusOf p))) _ r₂ in
+    let (h, r₂) = together p c room e in
+    let (o, r₃) = passed 2 (not (isOpen (statusOf p))) _ r₂ in
     let (e4, r₄) = passed 4 (badLengths (held p) (dayOf c) room) _ r₃ in
     let (e3, r₅) = passed 3 (badDayNumber (p .last) (c .number)) _ r₄ in
     let (e5, r₆) = passed-at 5 bad5 (ltb bad5 (length hs) || lastMissing (p .n) hs) _ r₅ in
@@ -101,7 +116,7 @@ module _ (p : Period) (c : DayCall) {room : ℕ} (s : Passes p c room) (positive
       any-map (ltb ((p .days + 1) * scale)) (λ i. getD (p .sums) i 0 + shareAt p c i) (range 0 32)
       ∙ none-any _ (range 0 32) (λ i m. le-ltb ((p .days + 1) * scale) _ (omega (arith, r .sums i, share-few i)))
 
-  sized-in-range : inRange (sizedPeriod p c) ≡ true
+  pub sized-in-range : inRange (sizedPeriod p c) ≡ true
   unfolding inRange
   sized-in-range =
       let r = in-range s in
@@ -117,34 +132,34 @@ module _ (p : Period) (c : DayCall) {room : ℕ} (s : Passes p c room) (positive
 -- the periods that calls return, from a fresh one on
 pub data Reached : Period → Type 0 where
   fresh : Reached freshPeriod
-  by-opening : {p : Period} → Reached p → (o : Opening) → Reached (openingReply p o .period)
-  by-day : {p : Period} → Reached p → (c : DayCall) (room : ℕ) → Reached (dayReply p c room .period)
+  by-opening : {p : Period} {o : Opening} {r : Reply} → Reached p → OpeningMeets p o r → Reached (r .period)
+  by-day : {p : Period} {c : DayCall} {before : List ℕ} {r : Reply} {after : List ℕ} → Reached p → DayMeets p c before r after → Reached (r .period)
+  by-closing : {p : Period} {before : List ℕ} {r : Reply} {after : List ℕ} → Reached p → ClosingMeets p before r after → Reached (r .period)
 
 abbrev Sound : Period → Type 0
 Sound p = isOpen (p .status) ≡ true → inRange p ≡ true
 
-opening-sound : (p : Period) (o : Opening) → Sound p → Sound (openingReply p o .period)
-unfolding openingReply openingRefusal
-opening-sound p o s = by (openingRefusal (statusOf p) o) refl
-  where
-    by : (x : Refusal) → openingRefusal (statusOf p) o ≡ x → Sound (replyBy x (record { period = openedPeriod o; outcome = outcome.Opened }) p .period)
-    by Clear e = λ q. opened-in-range o (passed 1 (badOpening o) Clear (passed 2 (isOpen (statusOf p)) _ e .1) .0)
-    by (Row number) e = s
-    by (RowAt number index) e = s
+-- a refused call leaves the period, an accepted one keeps it sound
+sound-by : (x : Refusal) (p after : Period) → Sound p → (x ≡ Clear → Sound after) → Sound (ifAccepted x after p)
+sound-by Clear p after s f = f refl
+sound-by (Row number) p after s f = s
+sound-by (RowAt number index) p after s f = s
 
-day-sound : (p : Period) (c : DayCall) (room : ℕ) → Sound p → Sound (dayReply p c room .period)
-unfolding dayReply
-day-sound p c room s = by (callRefusal p c room) refl
-  where
-    by : (x : Refusal) → callRefusal p c room ≡ x → Sound (replyBy x (record { period = sizedPeriod p c; outcome = outcome.Sized (total (held p) (accountsBrought p c)) (maxEul (held p) (accountsBrought p c)) }) p .period)
-    by Clear e = λ q. let (t, h) = passes p c room e in sized-in-range p c t h
-    by (Row number) e = s
-    by (RowAt number index) e = s
+opening-sound : (p : Period) (o : Opening) → openingRow p o ≡ Clear → Sound (openedPeriod o)
+unfolding openingRow openingRefusal
+opening-sound p o e = λ q. opened-in-range o (passed 1 (badOpening o) Clear (passed 2 (isOpen (statusOf p)) _ e .1) .0)
+
+day-sound : (p : Period) (c : DayCall) (room : ℕ) → dayRow p c room ≡ Clear → Sound (sizedPeriod p c)
+day-sound p c room e = λ q. let (t, h) = passes p c room e in sized-in-range p c t h
+
+not-open : (p : Period) → isOpen (p .status) ≡ false → Sound p
+not-open p e q = absurd (true≢false (sym q ∙ e))
 
 sound : {p : Period} → Reached p → Sound p
-sound fresh = λ q. absurd (true≢false (sym q))
-sound (by-opening {p} r o) = opening-sound p o (sound r)
-sound (by-day {p} r c room) = day-sound p c room (sound r)
+sound fresh = not-open freshPeriod refl
+sound (by-opening {p} {o} w m) = subst Sound (sym (m .period)) (sound-by _ p (openedPeriod o) (sound w) (opening-sound p o))
+sound (by-day {p} {c} {before} w m) = subst Sound (sym (m .period)) (sound-by _ p (sizedPeriod p c) (sound w) (day-sound p c (length before)))
+sound (by-closing {p} {before} w m) = subst Sound (sym (m .period)) (sound-by (closingRow p (length before)) p (closedPeriod p) (sound w) (λ e. not-open (closedPeriod p) refl))
 
 -- the theorem: on such a period the status that counts is open just when its status is
 pub status-counts : {p : Period} → Reached p → isOpen (statusOf p) ≡ isOpen (p .status)

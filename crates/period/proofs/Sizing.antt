@@ -27,9 +27,9 @@ use Rattle.exposure.proofs.Admitted.{admitted, groups-few}
 use Rattle.exposure.proofs.Found as figures
 use Rattle.fund.proofs.Dailies.{are-dailies}
 use Rattle.period.specs.declared.Period.{Period}
-use Rattle.period.specs.declared.Reply.{Reply}
-use Rattle.period.specs.declared.Outcome.the-variants as outcome
-use Rattle.period.specs.Calls.{held, brought, DayCall, dayOf, accountsBrought, callRefusal, shareAt, dayReply, dayBuffer}
+use Rattle.period.specs.declared.Outcome.the-variants as says
+use Rattle.period.specs.Reading.{brought, DayCall, dayOf}
+use Rattle.period.specs.Calls.{held, accountsBrought, dayRow, shareAt, DayMeets}
 use Rattle.period.specs.Rows.{Passes}
 use Rattle.period.proofs.Ranges.{Ranged, ranged}
 use Rattle.period.proofs.DayRows.{lent}
@@ -102,22 +102,17 @@ module _ {p : Period} {c : DayCall} {room : ℕ} (s : Passes p c room) where
       pub written : flatMap (λ e. five e top (r .total)) (take (p .n) (r .each)) ≡ dailies (held p) accts
       written = rw (top-is, total-is) (are-dailies (held p) accts (r .each) (found .each accts slices own))
 
--- the reply and the buffer, by what the refusal table says
+-- what the call says and leaves, by what the refusal table says
 module _ (p : Period) (c : DayCall) (out : List ℕ) where
-  pub day-refused : (number : ℕ) → callRefusal p c (length out) ≡ Row number
-      → (_≡_ {A = Reply} (record { period = p; outcome = outcome.Refused number }) (dayReply p c (length out))) × (out ≡ dayBuffer p c out)
-  unfolding dayReply dayBuffer
-  day-refused number e = (rw e, rw e)
+  pub day-refused : (number : ℕ) → dayRow p c (length out) ≡ Row number → DayMeets p c out (record { period = p; outcome = says.Refused number }) out
+  day-refused number e = record { answer = rw e; period = rw e; buffer = rw e }
 
-  pub day-refused-at : (number index : ℕ) → callRefusal p c (length out) ≡ RowAt number index
-      → (_≡_ {A = Reply} (record { period = p; outcome = outcome.RefusedAt number index }) (dayReply p c (length out))) × (out ≡ dayBuffer p c out)
-  unfolding dayReply dayBuffer
-  day-refused-at number index e = (rw e, rw e)
+  pub day-refused-at : (number index : ℕ) → dayRow p c (length out) ≡ RowAt number index → DayMeets p c out (record { period = p; outcome = says.RefusedAt number index }) out
+  day-refused-at number index e = record { answer = rw e; period = rw e; buffer = rw e }
 
-  pub day-accepted : callRefusal p c (length out) ≡ Clear
+  pub day-accepted : dayRow p c (length out) ≡ Clear
       → (t top highest : ℕ) (sums after : List ℕ)
       → t ≡ total (held p) (accountsBrought p c) → top ≡ maxEul (held p) (accountsBrought p c) → highest ≡ max (p .highest) top
       → sums ≡ map (λ i. getD (p .sums) i 0 + shareAt p c i) (range 0 32) → after ≡ dailies (held p) (accountsBrought p c)
-      → (_≡_ {A = Reply} (record { period = record { status = p .status; n = p .n; k = p .k; groups = p .groups; last = c .number; days = p .days + 1; highest = highest; sums = sums }; outcome = outcome.Sized t top }) (dayReply p c (length out))) × (after ≡ dayBuffer p c out)
-  unfolding dayReply dayBuffer
-  day-accepted e t top highest sums after a b h q w = (rw (e, q, h, a, b), rw (e, w))
+      → DayMeets p c out (record { period = record { status = p .status; n = p .n; k = p .k; groups = p .groups; last = c .number; days = p .days + 1; highest = highest; sums = sums }; outcome = says.Sized t top }) after
+  day-accepted e t top highest sums after a b h q w = record { answer = rw (e, a, b); period = rw (e, q, h, b); buffer = rw (e, w) }

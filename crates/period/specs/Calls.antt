@@ -1,40 +1,38 @@
--- What each call replies and leaves, by equations, from the period that it is given and its arguments.
-use mathlib.Core.Bool.{Bool, not, _&&_, _||_, cond}
-use mathlib.Core.List.{List, map}
+-- What each call answers and leaves, by equations, from the period that it is given and its arguments: `OpeningMeets`, `DayMeets` and
+-- `ClosingMeets` are the contracts, whole. Each has an equation for the answer, one for the period, and one for the buffer if it is lent one.
+use mathlib.Core.Bool.{Bool, not, _&&_, cond}
+use mathlib.Core.List.{List, [], _∷_, map, flatMap}
+use mathlib.Core.Path.{_≡_}
 use Prim.Native.Nat.{ℕ, _+_, _*_, max}
-use lib.Dec.{leb, ltb, eqb}
-use lib.IntN.{ℤ}
+use lib.Dec.{leb, ltb}
 use lib.ListN.{length, getD, take, replicate}
 use Rattle.numbers.specs.Lists.{range, any}
+use Rattle.numbers.specs.Sums.{Σ}
 use Rattle.methodology.specs.declared.Status.{Status}
 use Rattle.methodology.specs.declared.Status.the-variants.{Fresh, Open, Closed}
 use Rattle.methodology.specs.declared.Refusal.{Refusal}
 use Rattle.methodology.specs.declared.Refusal.the-variants.{Clear, Row, RowAt}
-use Rattle.methodology.specs.Account.{Opening, DayInput, Account, accounts}
+use Rattle.methodology.specs.Account.{Opening, Account, accounts}
 use Rattle.methodology.specs.Member.{loss}
 use Rattle.methodology.specs.Day.{total, maxEul, scale, share, dailies}
-use Rattle.methodology.specs.Refusals.{row_when_else_, isOpen, badOpening, openingRefusal, dayRefusal}
-use Rattle.methodology.specs.Register.{ifAccepted}
+use Rattle.methodology.specs.Contribution.{charge, funded, three}
+use Rattle.methodology.specs.Refusals.{badOpening, openingRefusal, dayRefusal, closingRefusal}
+use Rattle.methodology.specs.Register.{ifAccepted, answerBy}
 use Rattle.quotient.specs.Ranges.{greatestTotal}
-use Rattle.validation.specs.Slices.{plainDay}
 use Rattle.period.specs.declared.Period.{Period}
 use Rattle.period.specs.declared.Reply.{Reply}
-use Rattle.period.specs.declared.Outcome.the-variants as outcome
+use Rattle.period.specs.Reading.{DayCall, dayOf, dayBrought, answerOf}
 
 abbrev pub freshPeriod : Period
 freshPeriod =
     record { status = Fresh; n = 0; k = 0; groups = replicate 32 0; last = 0; days = 0; highest = 0; sums = replicate 32 0 }
 
--- what an opening call brings
-abbrev pub brought : (n k : ℕ) → (groups : List ℕ) → Opening
-brought n k groups = record { n = n; k = k; groups = groups }
-
 -- the opening that a period holds
 abbrev pub held : Period → Opening
 held p = record { n = p .n; k = p .k; groups = take (p .n) (p .groups) }
 
--- Whether a period's fields are in the ranges of an open one: the last accepted day number at most 31, D no more than that (day numbers
--- rise from 1), M within the bound of every T, an opening that row 1 lets pass, each sum at most D shares of the whole.
+-- Whether a period's fields are in the ranges of an open one: the last accepted day number at most 31, D at most that (day numbers rise
+-- from 1), M at most the greatest T that a day can have, an opening that row 1 lets pass, each sum at most D shares of the whole.
 unfoldable pub inRange : Period → Bool
 inRange p =
     leb (p .last) 31
@@ -43,18 +41,18 @@ inRange p =
     && not (badOpening (held p))
     && not (any (ltb (p .days * scale)) (p .sums))
 
--- The status that counts. A period that is out of range counts as not open; `status-counts` in proofs/Reach.antt shows that this never
--- decides for a period that calls returned, from a fresh one on.
+-- The status that counts. A period that is out of range counts as closed, and so does a fresh one (its n is 0), which no row tells from a
+-- closed one. No open period that calls returned is out of range: `status-counts` in proofs/Reach.antt.
 abbrev pub statusOf : Period → Status
 statusOf p = cond (inRange p) (p .status) Closed
 
--- a reply by what the refusal table says: the accepted one, or the period as it was with the row's number
-abbrev pub replyBy : Refusal → (accepted : Reply) → Period → Reply
-replyBy Clear r p = r
-replyBy (Row number) r p = record { period = p; outcome = outcome.Refused number }
-replyBy (RowAt number index) r p = record { period = p; outcome = outcome.RefusedAt number index }
+-- ---- opening
 
--- an opening: "accepted when fresh or closed, with M, D, the last accepted day number and all sums 0"
+-- the refusal table, read with what the period holds
+unfoldable pub openingRow : Period → Opening → Refusal
+openingRow p o = openingRefusal (statusOf p) o
+
+-- the period after an accepted opening: "with M, D, the last accepted day number and all sums 0"
 abbrev pub openedPeriod : Opening → Period
 openedPeriod o =
     record {
@@ -68,43 +66,18 @@ openedPeriod o =
       sums = replicate 32 0;
     }
 
-unfoldable pub openingReply : Period → Opening → Reply
-openingReply p o =
-    replyBy (openingRefusal (statusOf p) o) (record { period = openedPeriod o; outcome = outcome.Opened }) p
+pub record OpeningMeets (p : Period) (o : Opening) (r : Reply) : Type 0 where
+  pub answer : answerOf (r .outcome) ≡ answerBy (openingRow p o) []
+  pub period : r .period ≡ ifAccepted (openingRow p o) (openedPeriod o) p
 
 -- ---- day
 
--- What a day call brings: the day's number, and its accounts in six lent slices.
-pub record DayCall : Type 0 where
-  pub number : ℕ
-  pub members : List ℕ
-  pub numbers : List ℕ
-  pub kinds : List ℕ
-  pub npvs : List ℤ
-  pub margins : List ℕ
-  pub extras : List ℕ
-
-abbrev pub dayCall : (number : ℕ) → (members numbers kinds : List ℕ) → (npvs : List ℤ) → (margins extras : List ℕ) → DayCall
-dayCall number members numbers kinds npvs margins extras =
-    record { number = number; members = members; numbers = numbers; kinds = kinds; npvs = npvs; margins = margins; extras = extras }
-
--- the day, and its accounts
-abbrev pub dayOf : DayCall → DayInput
-dayOf c = plainDay (c .number) (c .members) (c .numbers) (c .kinds) (c .npvs) (c .margins) (c .extras)
-
+-- its accounts, where it is accepted
 abbrev pub accountsBrought : Period → DayCall → List Account
 accountsBrought p c = accounts (p .k) (dayOf c)
 
--- Row 4: "input lengths that disagree", of the three slices that make up the headings.
-abbrev pub headingsApart : DayCall → Bool
-headingsApart c = not (eqb (length (c .numbers)) (length (c .members))) || not (eqb (length (c .kinds)) (length (c .members)))
-
--- the refusal table of a day, with this part of row 4; `dayRefusal` tests row 2 again, to no effect
-unfoldable pub callRefusal : Period → DayCall → (room : ℕ) → Refusal
-callRefusal p c room =
-    row 2 when not (isOpen (statusOf p)) else
-    row 4 when headingsApart c else
-    dayRefusal (statusOf p) (held p) (p .last) (dayOf c) room
+unfoldable pub dayRow : Period → DayCall → (room : ℕ) → Refusal
+dayRow p c room = dayRefusal (statusOf p) (held p) (p .last) (dayBrought c) room
 
 -- what an accepted day adds to the sum in place i: member i + 1's share
 abbrev pub shareAt : Period → DayCall → (i : ℕ) → ℕ
@@ -126,13 +99,44 @@ sizedPeriod p c =
       sums = map (λ i. getD (p .sums) i 0 + shareAt p c i) (range 0 32);
     }
 
--- the reply: a day "returns T and Max EUL"
-unfoldable pub dayReply : Period → DayCall → (room : ℕ) → Reply
-dayReply p c room =
-    replyBy (callRefusal p c room)
-    (record { period = sizedPeriod p c; outcome = outcome.Sized (total (held p) (accountsBrought p c)) (maxEul (held p) (accountsBrought p c)) })
-    p
+-- A day "returns T and Max EUL" and writes "5 numbers a member". A refused one leaves the period and the buffer as before.
+pub record DayMeets (p : Period) (c : DayCall) (before : List ℕ) (r : Reply) (after : List ℕ) : Type 0 where
+  pub answer :
+      answerOf (r .outcome)
+      ≡ answerBy (dayRow p c (length before)) (total (held p) (accountsBrought p c) ∷ maxEul (held p) (accountsBrought p c) ∷ [])
+  pub period : r .period ≡ ifAccepted (dayRow p c (length before)) (sizedPeriod p c) p
+  pub buffer : after ≡ ifAccepted (dayRow p c (length before)) (dailies (held p) (accountsBrought p c)) before
 
--- and the buffer: "5 numbers a member", or as before
-unfoldable pub dayBuffer : Period → DayCall → (out : List ℕ) → List ℕ
-dayBuffer p c out = ifAccepted (callRefusal p c (length out)) (dailies (held p) (accountsBrought p c)) out
+-- ---- closing
+
+unfoldable pub closingRow : Period → (room : ℕ) → Refusal
+closingRow p room = closingRefusal (statusOf p) (held p) (p .days) room
+
+-- the sums of the members' shares, and the raw charge for one of them
+abbrev pub sumsHeld : Period → List ℕ
+sumsHeld p = take (p .n) (p .sums)
+
+abbrev pub chargeBy : Period → (sum : ℕ) → ℕ
+chargeBy p sum = charge (p .highest) sum (p .days)
+
+-- the period after an accepted closing: "closed and otherwise as before"
+abbrev pub closedPeriod : Period → Period
+closedPeriod p =
+    record {
+      status = Closed;
+      n = p .n;
+      k = p .k;
+      groups = p .groups;
+      last = p .last;
+      days = p .days;
+      highest = p .highest;
+      sums = p .sums;
+    }
+
+-- A closing "returns D, M and the total funded" and writes "3 a member". A refused one leaves the period and the buffer as before.
+pub record ClosingMeets (p : Period) (before : List ℕ) (r : Reply) (after : List ℕ) : Type 0 where
+  pub answer :
+      answerOf (r .outcome)
+      ≡ answerBy (closingRow p (length before)) (p .days ∷ p .highest ∷ Σ (sumsHeld p) (λ sum. funded (chargeBy p sum)) ∷ [])
+  pub period : r .period ≡ ifAccepted (closingRow p (length before)) (closedPeriod p) p
+  pub buffer : after ≡ ifAccepted (closingRow p (length before)) (flatMap (λ s. three (chargeBy p s)) (sumsHeld p)) before

@@ -1,4 +1,4 @@
--- What the rows of a day that come before its figures leave: all that the figures ask for.
+-- What holds of a day call that rows 2, 4, 3, 5 and 6 let pass: all that its figures ask for.
 use mathlib.Core.Path.{_≡_}
 use mathlib.Core.Bool.{true, false}
 use Prim.Native.Nat.{ℕ}
@@ -9,7 +9,8 @@ use Rattle.methodology.specs.declared.Refusal.the-variants.{Clear, Row, RowAt}
 use Rattle.methodology.specs.Account.{nobody}
 use Rattle.methodology.specs.Refusals.{isOpen, badLengths, badDayNumber, firstBadHeading, lastMissing, badAmount}
 use Rattle.period.specs.declared.Period.{Period}
-use Rattle.period.specs.Calls.{held, inRange, statusOf, DayCall, dayOf, accountsBrought, callRefusal}
+use Rattle.period.specs.Reading.{DayCall, dayOf}
+use Rattle.period.specs.Calls.{held, inRange, statusOf, accountsBrought, dayRow}
 
 -- no row before 7 is met
 pub record Passes (p : Period) (c : DayCall) (room : ℕ) : Type 0 where
@@ -26,5 +27,5 @@ pub record Passes (p : Period) (c : DayCall) (room : ℕ) : Type 0 where
 -- what the rows before 7 say is what the table says; `Clear` leaves it to row 7
 abbrev pub BeforeTotal : Period → DayCall → (room : ℕ) → Refusal → Type 0
 BeforeTotal p c room Clear = Passes p c room
-BeforeTotal p c room (Row number) = callRefusal p c room ≡ Row number
-BeforeTotal p c room (RowAt number index) = callRefusal p c room ≡ RowAt number index
+BeforeTotal p c room (Row number) = dayRow p c room ≡ Row number
+BeforeTotal p c room (RowAt number index) = dayRow p c room ≡ RowAt number index

@@ -13,9 +13,9 @@ use crate::sizes::with_shares;
 use methodology::Refusal;
 use methodology::Status;
 ghost use mathlib.Core.Path.{_≡_};
-ghost use Rattle.methodology.specs.Refusals.{isOpen, openingRefusal};
-ghost use lib.ListN.{length};
-ghost use Rattle.period.specs.Calls.{freshPeriod, brought, inRange, statusOf, openingReply, dayCall, dayReply, dayBuffer};
+ghost use Rattle.methodology.specs.Refusals.{isOpen};
+ghost use Rattle.period.specs.Reading.{brought, dayCall};
+ghost use Rattle.period.specs.Calls.{freshPeriod, inRange, statusOf, openingRow, OpeningMeets, DayMeets, closingRow, ClosingMeets};
 ghost use Rattle.period.specs.Rows.{BeforeTotal};
 
 // What the calls of a period have left. Its fields are private: a period is a fresh one, or one that calls returned. `last` is the last
@@ -32,10 +32,12 @@ pub struct Period {
     sums: [u64; 32],
 }
 
-// What a call says: acceptance, with a day's T and Max EUL, or one numbered refusal, with its index in rows 5 and 6.
+// What a call says: acceptance, with a day's T and Max EUL or a closing's D, M and total funded, or one numbered refusal, with its index in
+// rows 5 and 6. `answerOf` in specs/Reading.antt gives document 01's number and values for each case.
 pub enum Outcome {
     Opened,
     Sized(u64, u64),
+    Closed(u64, u64, u64),
     Refused(u64),
     RefusedAt(u64, u64),
 }
@@ -56,19 +58,6 @@ fn is_open(status: Status) -> bool
         Status::Open => true,
         Status::Closed => false,
     }
-}
-
-// The refusal table's rows of an opening, in their order: 2, 1.
-fn opening_row(status: Status, n: u64, k: u64, groups: &[u64]) -> Refusal
-    ensures { λ r. ⌜ r ≡ openingRefusal status (brought n k (now (groups .entry))) ⌝ }
-{
-    if is_open(status) {
-        return Refusal::Row(2);
-    }
-    if bad_opening(n, k, groups) {
-        return Refusal::Row(1);
-    }
-    Refusal::Clear
 }
 
 impl Period {
@@ -119,16 +108,28 @@ impl Period {
         Status::Closed
     }
 
-    // "Opening takes n, k and groups, and is accepted when fresh or closed, with M, D, the last accepted day number and all sums 0."
-    pub fn opening(mut self, n: u64, k: u64, groups: &[u64]) -> Reply
-        ensures { λ r. ⌜ r ≡ openingReply self (brought n k (now (groups .entry))) ⌝ }
+    // The refusal table's rows of an opening, in their order: 2, 1.
+    fn opening_row(self, n: u64, k: u64, groups: &[u64]) -> Refusal
+        ensures { λ r. ⌜ r ≡ openingRow self (brought n k (now (groups .entry))) ⌝ }
     {
         let status = self.status_of();
-        let row = opening_row(status, n, k, groups);
+        if is_open(status) {
+            return Refusal::Row(2);
+        }
+        if bad_opening(n, k, groups) {
+            return Refusal::Row(1);
+        }
+        Refusal::Clear
+    }
+
+    // "Opening takes n, k and groups, and is accepted when fresh or closed, with M, D, the last accepted day number and all sums 0."
+    pub fn opening(mut self, n: u64, k: u64, groups: &[u64]) -> Reply
+        ensures { λ r. ⌜ OpeningMeets self (brought n k (now (groups .entry))) r ⌝ }
+    {
+        let row = self.opening_row(n, k, groups);
         match row {
             Refusal::Clear => {
                 let groups = padded(groups);
-                let sums = [0u64; 32];
                 let period = Period {
                     status: Status::Open,
                     n,
@@ -137,7 +138,7 @@ impl Period {
                     last: 0,
                     days: 0,
                     highest: 0,
-                    sums,
+                    sums: [0; 32],
                 };
                 Reply {
                     period,
@@ -183,10 +184,12 @@ impl Period {
         if kinds.len() != count {
             return Refusal::Row(4);
         }
-        if bad_lengths(n, k, count, npvs.len(), margins.len(), extras.len(), room) {
-            return Refusal::Row(4);
+        let bad4 = bad_lengths(n, k, count, npvs.len(), margins.len(), extras.len(), room);
+        let bad3 = bad_day_number(last, number);
+        if bad4 {
+            return Refusal::Row(4); // before row 3
         }
-        if bad_day_number(last, number) {
+        if bad3 {
             return Refusal::Row(3);
         }
         let bad5 = validation::first_bad_heading(members, numbers, kinds, n);
@@ -216,8 +219,7 @@ impl Period {
         extras: &[u64],
         out: &mut [u64],
     ) -> Reply
-        ensures { λ r. ⌜ r ≡ dayReply self (dayCall number (now (members .entry)) (now (numbers .entry)) (now (kinds .entry)) (now (npvs .entry)) (now (margins .entry)) (now (extras .entry))) (length (now (out .entry))) ⌝ }
-        ensures { λ _. ⌜ now (out .exit) ≡ dayBuffer self (dayCall number (now (members .entry)) (now (numbers .entry)) (now (kinds .entry)) (now (npvs .entry)) (now (margins .entry)) (now (extras .entry))) (now (out .entry)) ⌝ }
+        ensures { λ r. ⌜ DayMeets self (dayCall number (now (members .entry)) (now (numbers .entry)) (now (kinds .entry)) (now (npvs .entry)) (now (margins .entry)) (now (extras .entry))) (now (out .entry)) r (now (out .exit)) ⌝ }
     {
         let row = self.day_row(
             number,
@@ -267,6 +269,58 @@ impl Period {
                 Reply {
                     period,
                     outcome: Outcome::Sized(total, top),
+                }
+            }
+            Refusal::Row(number) => Reply {
+                period: self,
+                outcome: Outcome::Refused(number),
+            },
+            Refusal::RowAt(number, index) => Reply {
+                period: self,
+                outcome: Outcome::RefusedAt(number, index),
+            },
+        }
+    }
+
+    // The refusal table's rows of a closing, in their order: 2, 8, 4.
+    fn closing_row(self, room: usize) -> Refusal
+        ensures { λ r. ⌜ r ≡ closingRow self room ⌝ }
+    {
+        let n = self.n;
+        let days = self.days;
+        let status = self.status_of();
+        if !is_open(status) {
+            return Refusal::Row(2);
+        }
+        if days == 0 {
+            return Refusal::Row(8);
+        }
+        if room as u64 != 3 * n {
+            return Refusal::Row(4);
+        }
+        Refusal::Clear
+    }
+
+    // "Closing writes 3 a member (raw, funded, unfunded) and returns D, M and the total funded; the period is then closed and otherwise as
+    // before."
+    pub fn closing(mut self, out: &mut [u64]) -> Reply
+        ensures { λ r. ⌜ ClosingMeets self (now (out .entry)) r (now (out .exit)) ⌝ }
+    {
+        let row = self.closing_row(out.len());
+        match row {
+            Refusal::Clear => {
+                let n = self.n as usize;
+                let days = self.days;
+                let highest = self.highest;
+                let sums = self.sums;
+                let funds = fund::write_contributions(sums, n, highest, days, out);
+                let period = Period {
+                    status: Status::Closed,
+                    ..self
+                };
+                Reply {
+                    period,
+                    outcome: Outcome::Closed(days, highest, funds),
                 }
             }
             Refusal::Row(number) => Reply {

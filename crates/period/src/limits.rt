@@ -6,7 +6,7 @@ ghost use lib.Dec.{ltb};
 ghost use lib.ListN.{length, getD, take};
 ghost use Rattle.numbers.specs.Lists.{range, any};
 ghost use Rattle.methodology.specs.Refusals.{badOpening};
-ghost use Rattle.period.specs.Calls.{brought};
+ghost use Rattle.period.specs.Reading.{brought};
 
 // Whether any number is above `most`.
 pub fn any_above(most: u64, numbers: &[u64]) -> bool

@@ -1,4 +1,4 @@
-// The parts of a day call: rows 3 and 4, Max EUL of the groups that a period holds, and the sums with a day's shares.
+// The parts of a day call: rows 3 and 4, Max EUL under the groups that a period holds, and the sums with a day's shares.
 ghost use mathlib.Core.Path.{_≡_};
 ghost use mathlib.Core.Bool.{not, _||_, cond};
 ghost use mathlib.Core.List.{List, map};
@@ -13,7 +13,7 @@ ghost use Rattle.quotient.specs.Ranges.{Loss};
 ghost use Rattle.validation.specs.Slices.{Lent};
 ghost use Rattle.exposure.specs.Cut.{Owners};
 ghost use Rattle.exposure.specs.Day.{Sizable};
-ghost use Rattle.period.specs.Calls.{brought};
+ghost use Rattle.period.specs.Reading.{brought};
 
 // Whether row 3 is met, where `last` is the last accepted day number.
 pub fn bad_day_number(last: u64, number: u64) -> bool

@@ -5,7 +5,7 @@ use native.Mathlib.Omega.{arith}
 use lib.ListN.{length}
 use Rattle.methodology.specs.declared.Refusal.{Refusal}
 use Rattle.methodology.specs.declared.Refusal.the-variants.{Clear, Row, RowAt}
-use Rattle.period.specs.Calls.{DayCall, dayCall}
+use Rattle.period.specs.Reading.{DayCall, dayCall}
 use Rattle.period.specs.Rows.{Passes, BeforeTotal}
 use Rattle.period.proofs.DayRows.{row-7, none}
 use Rattle.period.proofs.Sizing.{in-range, members-few, room-long, sizable, groups-fit, sums-fit, total-is, part, shares, top-is, top-part, written, day-refused, day-refused-at, day-accepted}

@@ -12,7 +12,8 @@ use Rattle.validation.specs.Slices.{Lent}
 use Rattle.validation.specs.Rows.{Opened}
 use Rattle.validation.proofs.Headings.{headings-length}
 use Rattle.validation.proofs.Opening.{opening-leaves}
-use Rattle.period.specs.Calls.{held, statusOf, DayCall, dayCall, dayOf, accountsBrought}
+use Rattle.period.specs.Reading.{DayCall, dayCall, dayOf}
+use Rattle.period.specs.Calls.{held, statusOf, accountsBrought}
 use Rattle.period.proofs.Ranges.{ranged, open-in-range}
 use Rattle.period.proofs.DayRows.{lengths-are, lent, headings-le, amounts-le, row-2, row-3, row-4, row-4-numbers, row-4-kinds, row-5, row-5-missing, row-6}
 use Rattle.period.proofs.Period.day_row.Statement.{statement}
@@ -28,33 +29,42 @@ opened c = ap isOpen (sym (c .before .before .status-of .ensures)) ∙ sym (c .b
 limits : (c : tie.Else1) → Opened (held (c .before .before .before .before .before .before .before .before .args .self))
 limits c = opening-leaves _ (ranged _ (open-in-range _ (opened c)) .opened)
 
-abbrev start : tie.Else4 → tie.Start
-start c = c .before .before .before .before .before .before .before .before .before .before .before .before
+-- once the three slices are known to be of one length
+abbrev start : tie.Else3 → tie.Start
+start c = c .before .before .before .before .before .before .before .before .before .before
 
-same-numbers : (c : tie.Else4) → length (start c .args .numbers .now) ≡ length (start c .args .members .now)
-same-numbers c = c .before .before .before .if2 .left
+same-numbers : (c : tie.Else3) → length (start c .args .numbers .now) ≡ length (start c .args .members .now)
+same-numbers c = c .before .if2 .left
 
-same-kinds : (c : tie.Else4) → length (start c .args .kinds .now) ≡ length (start c .args .members .now)
-same-kinds c = c .before .before .if3 .left
+same-kinds : (c : tie.Else3) → length (start c .args .kinds .now) ≡ length (start c .args .members .now)
+same-kinds c = c .if3 .left
 
-lengths-good : (c : tie.Else4) → badLengths (held (start c .args .self)) (dayOf (call (start c))) (start c .args .room) ≡ false
-lengths-good c = lengths-are (start c .args .self) (call (start c)) (start c .args .room) ∙ sym (c .before .bad-lengths .ensures) ∙ c .if4 .left
-
-count : (c : tie.Else4) → length (dayOf (call (start c)) .headings) ≡ length (start c .args .members .now)
+count : (c : tie.Else3) → length (dayOf (call (start c)) .headings) ≡ length (start c .args .members .now)
 count c = headings-length (start c .args .members .now) (start c .args .numbers .now) (start c .args .kinds .now)
 
-amounts : (c : tie.Else4) → let s = start c in Lent (s .args .self .k) (s .args .kinds .now) (s .args .npvs .now) (s .args .margins .now) (s .args .extras .now) (accountsBrought (s .args .self) (call s))
-amounts c = lent (start c .args .self) (call (start c)) (start c .args .room) (same-kinds c) (lengths-good c)
+-- rows 4 and 3
+abbrev together : tie.Else5 → tie.Else3
+together c = c .before .before .before .before
 
-number-good : (c : tie.Else5) → let s = start (c .before .before) in badDayNumber (s .args .self .last) (s .args .number) ≡ false
-number-good c = sym (c .before .bad-day-number .ensures) ∙ c .if5 .left
+lengths-are-bad : (c : tie.After-bad-day-number) → badLengths (held (start (c .before .before) .args .self)) (dayOf (call (start (c .before .before)))) (start (c .before .before) .args .room) ≡ c .before .bad-lengths .result
+lengths-are-bad c = let s = start (c .before .before) in lengths-are (s .args .self) (call s) (s .args .room) ∙ sym (c .before .bad-lengths .ensures)
 
-headings-good : (c : tie.Else6) → let s = start (c .before .before .before .before) in firstBadHeading (s .args .self .n) nobody (dayOf (call s) .headings) ≡ length (dayOf (call s) .headings)
+lengths-good : (c : tie.Else4) → let s = start (c .before .before .before) in badLengths (held (s .args .self)) (dayOf (call s)) (s .args .room) ≡ false
+lengths-good c = lengths-are-bad (c .before) ∙ c .if4 .left
+
+number-good : (c : tie.Else5) → let s = start (together c) in badDayNumber (s .args .self .last) (s .args .number) ≡ false
+number-good c = sym (c .before .before .bad-day-number .ensures) ∙ c .if5 .left
+
+amounts : (c : tie.Else5) → let s = start (together c) in Lent (s .args .self .k) (s .args .kinds .now) (s .args .npvs .now) (s .args .margins .now) (s .args .extras .now) (accountsBrought (s .args .self) (call s))
+amounts c = let s = start (together c) in lent (s .args .self) (call s) (s .args .room) (same-kinds (together c)) (lengths-good (c .before))
+
+-- row 5
+headings-good : (c : tie.Else6) → let s = start (together (c .before .before)) in firstBadHeading (s .args .self .n) nobody (dayOf (call s) .headings) ≡ length (dayOf (call s) .headings)
 headings-good c =
-    let e = c .before .before .before .before in
+    let e = together (c .before .before) in
     omega (arith, c .before .first-bad-heading .ensures, c .if6 .left, count e, headings-le (start e .args .self) (call (start e)) 0)
 
-complete : (c : tie.Else7) → let s = start (c .before .before .before .before .before .before) in lastMissing (s .args .self .n) (dayOf (call s) .headings) ≡ false
+complete : (c : tie.Else7) → let s = start (together (c .before .before .before .before)) in lastMissing (s .args .self .n) (dayOf (call s) .headings) ≡ false
 complete c = sym (c .before .last-missing .ensures _ _) ∙ c .if7 .left
 
 status-of-requires : tie.Need-status-of-requires
@@ -77,56 +87,63 @@ bad-lengths-requires c κs =
     let l = limits (c .before .before) in
     (l .members-few, l .scenarios-few)
 
-returns-4 : tie.Need-returns-4
-returns-4 c =
-    let e = c .before .before in
-    let s = e .before .before .before .before .before .before .before .before .before .before in
-    row-4 _ _ _ (opened (e .before .before)) (e .before .if2 .left) (e .if3 .left) (lengths-are (s .args .self) (call s) (s .args .room) ∙ sym (c .before .bad-lengths .ensures) ∙ c .if4 .taken)
-
 bad-day-number-requires : tie.Need-bad-day-number-requires
 bad-day-number-requires c κs = search needs
 
+returns-4 : tie.Need-returns-4
+returns-4 c =
+    let e = c .before .before .before in
+    row-4 _ _ _ (opened (e .before .before)) (same-numbers e) (same-kinds e) (lengths-are-bad (c .before) ∙ c .if4 .taken)
+
 returns-5 : tie.Need-returns-5
 returns-5 c =
-    let e = c .before .before in
-    row-3 _ _ _ (opened (e .before .before .before .before)) (same-numbers e) (same-kinds e) (lengths-good e) (sym (c .before .bad-day-number .ensures) ∙ c .if5 .taken)
+    let e = c .before .before .before .before in
+    row-3 _ _ _ (opened (e .before .before)) (same-numbers e) (same-kinds e) (lengths-good (c .before)) (sym (c .before .before .bad-day-number .ensures) ∙ c .if5 .taken)
 
 first-bad-heading-requires : tie.Need-first-bad-heading-requires
-first-bad-heading-requires c κs = (same-numbers (c .before .before), same-kinds (c .before .before))
+first-bad-heading-requires c κs = (same-numbers (together c), same-kinds (together c))
 
 returns-6 : tie.Need-returns-6
 returns-6 c =
-    let e = c .before .before .before .before in
+    let f = c .before .before in
+    let e = together f in
     let b = c .before .first-bad-heading .ensures in
-    row-5 _ _ _ (opened (e .before .before .before .before)) (same-numbers e) (same-kinds e) (lengths-good e) (number-good (c .before .before)) (omega (arith, b, c .if6 .taken, count e)) ∙ ap (RowAt 5) (sym b)
+    row-5 _ _ _ (opened (e .before .before)) (same-numbers e) (same-kinds e) (lengths-good (f .before)) (number-good f) (omega (arith, b, c .if6 .taken, count e)) ∙ ap (RowAt 5) (sym b)
 
 last-missing-requires : tie.Need-last-missing-requires
 last-missing-requires c κs = search needs
 
 returns-7 : tie.Need-returns-7
 returns-7 c =
-    let e = c .before .before .before .before .before .before in
-    let b = headings-good (c .before .before) in
-    row-5-missing _ _ _ (opened (e .before .before .before .before)) (same-numbers e) (same-kinds e) (lengths-good e) (number-good (c .before .before .before .before)) b (sym (c .before .last-missing .ensures _ _) ∙ c .if7 .taken) ∙ ap (RowAt 5) (count e)
+    let h = c .before .before in
+    let f = h .before .before in
+    let e = together f in
+    row-5-missing _ _ _ (opened (e .before .before)) (same-numbers e) (same-kinds e) (lengths-good (f .before)) (number-good f) (headings-good h) (sym (c .before .last-missing .ensures _ _) ∙ c .if7 .taken) ∙ ap (RowAt 5) (count e)
 
 first-bad-amount-requires : tie.Need-first-bad-amount-requires
 first-bad-amount-requires c κs =
-    let e = c .before .before .before .before .before .before in
-    let l = amounts e .amounts in
-    (limits (e .before .before .before .before) .scenarios-few, rw (l .margins-long) (l .npvs-long), l .extras-long ∙ sym (l .margins-long))
+    let f = c .before .before .before .before in
+    let l = amounts f .amounts in
+    (limits (together f .before .before) .scenarios-few, rw (l .margins-long) (l .npvs-long), l .extras-long ∙ sym (l .margins-long))
 
 returns-8 : tie.Need-returns-8
 returns-8 c =
-    let e = c .before .before .before .before .before .before .before .before in
-    let b = c .before .first-bad-amount .ensures _ (amounts e .amounts) in
-    row-6 _ _ _ (opened (e .before .before .before .before)) (same-numbers e) (same-kinds e) (lengths-good e) (number-good (c .before .before .before .before .before .before)) (headings-good (c .before .before .before .before)) (complete (c .before .before)) (omega (arith, b, c .if8 .taken, count e)) ∙ ap (RowAt 6) (sym b)
+    let m = c .before .before in
+    let h = m .before .before in
+    let f = h .before .before in
+    let e = together f in
+    let b = c .before .first-bad-amount .ensures _ (amounts f .amounts) in
+    row-6 _ _ _ (opened (e .before .before)) (same-numbers e) (same-kinds e) (lengths-good (f .before)) (number-good f) (headings-good h) (complete m) (omega (arith, b, c .if8 .taken, count e)) ∙ ap (RowAt 6) (sym b)
 
 returns-9 : tie.Need-returns-9
 returns-9 c =
-    let e = c .before .before .before .before .before .before .before .before in
-    let o = opened (e .before .before .before .before) in
-    let b = c .before .first-bad-amount .ensures _ (amounts e .amounts) in
-    record { in-range = open-in-range _ o; opened = o; numbers-long = same-numbers e; kinds-long = same-kinds e; lengths = lengths-good e; number = number-good (c .before .before .before .before .before .before); headings = headings-good (c .before .before .before .before); complete = complete (c .before .before); amounts = omega (arith, b, c .if8 .left, count e, amounts-le (start e .args .self) (call (start e)) 0) }
+    let m = c .before .before in
+    let h = m .before .before in
+    let f = h .before .before in
+    let e = together f in
+    let o = opened (e .before .before) in
+    let b = c .before .first-bad-amount .ensures _ (amounts f .amounts) in
+    record { in-range = open-in-range _ o; opened = o; numbers-long = same-numbers e; kinds-long = same-kinds e; lengths = lengths-good (f .before); number = number-good f; headings = headings-good h; complete = complete m; amounts = omega (arith, b, c .if8 .left, count e, amounts-le (start e .args .self) (call (start e)) 0) }
 
 pub day-row-spec : {M : Type 1} → statement M
 day-row-spec =
@@ -138,8 +155,8 @@ day-row-spec =
     returns-2
     returns-3
     bad-lengths-requires
-    returns-4
     bad-day-number-requires
+    returns-4
     returns-5
     first-bad-heading-requires
     returns-6

@@ -2,13 +2,9 @@
 use borrow.Author.Needs.{needs}
 use mathlib.Core.Path.{sym, _∙_}
 use native.Mathlib.Omega.{arith}
-use Rattle.period.specs.Calls.{brought}
 use Rattle.period.proofs.Replies.{opening-passed, opening-accepted, opening-refused, opening-refused-at}
 use Rattle.period.proofs.Period.opening.Statement.{statement}
 use Rattle.period.proofs.Period.opening.Tie as tie
-
-status-of-requires : tie.Need-status-of-requires
-status-of-requires c κs = search needs
 
 opening-row-requires : tie.Need-opening-row-requires
 opening-row-requires c κs = search needs
@@ -18,10 +14,7 @@ enum-told c = search needs
 
 padded-requires : tie.Need-padded-requires
 padded-requires c κs =
-    let s = c .before .before .before .before .before in
-    let o = brought (s .args .n) (s .args .k) (s .args .groups .now) in
-    let e = rw (c .before .before .before .status-of .ensures) at (sym (c .before .before .opening-row .ensures) ∙ c .enum-told .given .1) in
-    let l = opening-passed (s .args .self) o e in
+    let l = opening-passed _ _ (sym (c .before .before .opening-row .ensures) ∙ c .enum-told .given .1) in
     omega (arith, l .groups-long, l .members-few)
 
 enum-known-row : tie.Need-enum-known-row
@@ -31,31 +24,18 @@ enum-known-row-2 : tie.Need-enum-known-row-2
 enum-known-row-2 c = search needs
 
 returns : tie.Need-returns
-returns c =
-    let s = c .before .before .before .before .before .before in
-    let o = brought (s .args .n) (s .args .k) (s .args .groups .now) in
-    let e = rw (c .before .before .before .before .status-of .ensures) at (sym (c .before .before .before .opening-row .ensures) ∙ c .before .enum-told .given .1) in
-    opening-accepted (s .args .self) o e _ (c .padded .ensures)
+returns c = opening-accepted _ _ (sym (c .before .before .before .opening-row .ensures) ∙ c .before .enum-told .given .1) _ (c .padded .ensures)
 
 returns-2 : tie.Need-returns-2
-returns-2 c =
-    let s = c .before .before .before .before .before .before in
-    let o = brought (s .args .n) (s .args .k) (s .args .groups .now) in
-    let e = rw (c .before .before .before .before .status-of .ensures) at (sym (c .before .before .before .opening-row .ensures) ∙ c .before .row .given .1) in
-    opening-refused (s .args .self) o _ e
+returns-2 c = opening-refused _ _ _ (sym (c .before .before .before .opening-row .ensures) ∙ c .before .row .given .1)
 
 returns-3 : tie.Need-returns-3
-returns-3 c =
-    let s = c .before .before .before .before .before .before in
-    let o = brought (s .args .n) (s .args .k) (s .args .groups .now) in
-    let e = rw (c .before .before .before .before .status-of .ensures) at (sym (c .before .before .before .opening-row .ensures) ∙ c .before .row2 .given .1) in
-    opening-refused-at (s .args .self) o _ _ e
+returns-3 c = opening-refused-at _ _ _ _ (sym (c .before .before .before .opening-row .ensures) ∙ c .before .row2 .given .1)
 
 pub opening-spec : {M : Type 1} → statement M
 opening-spec =
     tie.close
     (tie.spec
-    status-of-requires
     opening-row-requires
     enum-told
     padded-requires

@@ -2,14 +2,14 @@
 use borrow.Author.Needs.{needs}
 use Prim.Native.Nat.{_-_, _≤_}
 use lib.ListN.{length}
-use Rattle.figures.proofs.put_rows.Statement.{statement}
-use Rattle.figures.proofs.put_rows.Tie as tie
+use Rattle.printing.proofs.put_rows.Statement.{statement}
+use Rattle.printing.proofs.put_rows.Tie as tie
 
 abbrev Inv-loop : tie.InvT-loop
-Inv-loop out width i₀ t4 t5 i = i ≤ length out
+Inv-loop numbers width i₀ t4 t5 i = i ≤ length numbers
 
 abbrev μ-loop : tie.MeasureT-loop
-μ-loop out width i₀ t4 t5 i = length out - i
+μ-loop numbers width i₀ t4 t5 i = length numbers - i
 
 loop-holds : tie.Need-loop-holds Inv-loop μ-loop
 loop-holds c = search needs

@@ -1,0 +1,327 @@
+-- Every number that a contract names fits 64 bits, on any period: a row's number and index, a day's figures by the bound of T, a closing's
+-- by the range of an open period.
+use mathlib.Core.Path.{_≡_, refl, sym, ap, ap₂, subst, _∙_}
+use mathlib.Core.Bool.{Bool, true, false, not, _||_}
+use mathlib.Core.List.{List, [], _∷_, map, flatMap}
+use Prim.Native.Nat.{ℕ, _+_, _*_, _^_, _≤_, _<_, max}
+use native.Mathlib.Omega.{arith}
+use lib.Dec.{ltb, eqb}
+use lib.ListN.{length, getD, take, replicate}
+use lib.Seq.{getD-take, length-take-le}
+use Rattle.numbers.specs.Lists.{range, firstWhere, Every}
+use Rattle.numbers.specs.Sums.{Σ}
+use Rattle.numbers.specs.Rounding.{roundDiv}
+use Rattle.numbers.proofs.Lists.{_∈_, mem-range, by-index, at-any, replicate-at, first-le, range-length, table-length, mem-every, every-map, every-flatMap}
+use Rattle.numbers.proofs.Rows.{rows-length}
+use Rattle.numbers.proofs.Sums.{Σ-bound}
+use Rattle.methodology.specs.declared.Refusal.{Refusal}
+use Rattle.methodology.specs.declared.Refusal.the-variants.{Clear, Row, RowAt}
+use Rattle.methodology.specs.Account.{Opening, DayInput, Account, members, accounts, nobody}
+use Rattle.methodology.specs.Member.{loss}
+use Rattle.methodology.specs.Day.{total, maxEul, scale, share, value, reserve, estimate, five, dailies}
+use Rattle.methodology.specs.Contribution.{charge, minimum, funded, unfunded, three}
+use Rattle.methodology.specs.Refusals.{row_when_else_, row_at_when_else_, isOpen, badOpening, openingRefusal, badLengths, badDayNumber, firstBadHeading, lastMissing, badAmount, dayRefusal, closingRefusal}
+use Rattle.methodology.specs.Register.{ifAccepted, accepted, answerBy}
+use Rattle.methodology.proofs.Passed.{passed}
+use Rattle.quotient.specs.Ranges.{greatestTotal}
+use Rattle.quotient.proofs.Bounds.{share-le, cents-le, raw-le}
+use Rattle.validation.proofs.Headings.{bad-heading-le}
+use Rattle.validation.proofs.Opening.{opening-leaves}
+use Rattle.validation.proofs.Day.{sized}
+use Rattle.exposure.proofs.MaxTotal.{loss-le-total, max-le-total}
+use Rattle.period.specs.declared.Period.{Period}
+use Rattle.period.specs.declared.Reply.{Reply}
+use Rattle.period.specs.declared.Outcome.{Outcome}
+use Rattle.period.specs.declared.Outcome.the-variants as says
+use Rattle.period.specs.Reading.{answerOf, DayCall, dayBrought}
+use Rattle.period.specs.Calls.{freshPeriod, held, inRange, statusOf, openingRow, openedPeriod, OpeningMeets, accountsBrought, dayRow, shareAt, sizedPeriod, DayMeets, closingRow, sumsHeld, chargeBy, closedPeriod, ClosingMeets}
+use Rattle.period.specs.Rows.{Passes}
+use Rattle.period.proofs.Replies.{opening-passed}
+use Rattle.period.proofs.Ranges.{Ranged, ranged}
+use Rattle.period.proofs.Sizing.{members-few, room-long, total-few}
+use Rattle.period.proofs.Closings.{Closable, closable, in-range, charges}
+use Rattle.period.proofs.Reach.{passes, sized-in-range}
+use Rattle.demand3.specs.Runs.{Asked, Made, argumentsOf, Meets}
+use Rattle.demand3.specs.Demand3.{Fits64, numbersIn, Narrow, Fits, HasRun}
+
+-- ---- rows
+
+-- a row's number and index
+abbrev RowFits : Refusal → Type 0
+RowFits Clear = Unit {0}
+RowFits (Row number) = Fits64 number
+RowFits (RowAt number index) = Fits64 number × Fits64 index
+
+when-fits : (number : ℕ) (b : Bool) (rest : Refusal) → Fits64 number → (b ≡ false → RowFits rest) → RowFits (row number when b else rest)
+unfolding row_when_else_
+when-fits number true rest h f = h
+when-fits number false rest h f = f refl
+
+at-fits : (number index : ℕ) (b : Bool) (rest : Refusal) → Fits64 number → Fits64 index → RowFits rest → RowFits (row number at index when b else rest)
+unfolding row_at_when_else_
+at-fits number index true rest h i f = (h, i)
+at-fits number index false rest h i f = f
+
+opening-row-fits : (p : Period) (o : Opening) → RowFits (openingRow p o)
+unfolding openingRow openingRefusal
+opening-row-fits p o = when-fits 2 (isOpen (statusOf p)) _ (omega arith) (λ e. when-fits 1 (badOpening o) Clear (omega arith) (λ e. tt))
+
+closing-row-fits : (p : Period) (room : ℕ) → RowFits (closingRow p room)
+unfolding closingRow closingRefusal
+closing-row-fits p room =
+    when-fits 2 (not (isOpen (statusOf p))) _ (omega arith)
+    (λ e. when-fits 8 (eqb (p .days) 0) _ (omega arith)
+    (λ e. when-fits 4 (not (eqb room (3 * p .n))) Clear (omega arith) (λ e. tt)))
+
+accounts-long : (k : ℕ) (d : DayInput) → length (accounts k d) ≡ length (d .headings)
+unfolding accounts
+accounts-long k d = table-length _ 0 (length (d .headings))
+
+day-row-fits : (p : Period) (c : DayCall) (room : ℕ) → RowFits (dayRow p c room)
+unfolding dayRow dayRefusal
+day-row-fits p c room =
+    let d = dayBrought c in
+    let o = held p in
+    let hs = d .headings in
+    let accts = accounts (p .k) d in
+    when-fits 2 (not (isOpen (statusOf p))) _ (omega arith)
+    (λ e. when-fits 4 (badLengths o d room) _ (omega arith)
+    (λ e. when-fits 3 (badDayNumber (p .last) (d .number)) _ (omega arith)
+    (λ f. let few = sized o d room e .few in
+    at-fits 5 (firstBadHeading (p .n) nobody hs) (ltb (firstBadHeading (p .n) nobody hs) (length hs) || lastMissing (p .n) hs) _ (omega arith) (omega (arith, bad-heading-le (p .n) nobody hs))
+    (at-fits 6 (firstWhere badAmount accts) (ltb (firstWhere badAmount accts) (length hs)) _ (omega arith) (omega (arith, first-le badAmount accts, accounts-long (p .k) d))
+    (when-fits 7 (eqb (total o accts) 0) Clear (omega arith) (λ e. tt))))))
+
+-- ---- lists
+
+indexed : (P : ℕ → Type 0) (xs : List ℕ) → ((i : ℕ) → P (getD xs i 0)) → Every P xs
+indexed P xs h = mem-every P xs (by-index P xs 0 (λ i l. h i))
+
+-- ---- a day that is accepted
+
+module _ (o : Opening) (accts : List Account) (positive : 0 < total o accts) (few : total o accts ≤ greatestTotal) where
+  five-fits : {m : ℕ} → m ∈ members (o .n) → Every Fits64 (five (loss (o .k) accts m) (maxEul o accts) (total o accts))
+  unfolding five share value reserve estimate
+  five-fits {m} i =
+      let e = loss (o .k) accts m in
+      let top = maxEul o accts in
+      let part = loss-le-total o accts i in
+      let most = max-le-total o accts in
+      let cents : (f : ℕ) → roundDiv (f * e * top) (total o accts) ≤ f * top = λ f. cents-le f e top (total o accts) positive part in
+      (omega arith, (omega (arith, share-le scale e (total o accts) positive part), (omega (arith, cents 100), (omega (arith, cents 110), (omega (arith, cents 220), tt)))))
+
+  dailies-fit : Every Fits64 (dailies o accts)
+  unfolding dailies
+  dailies-fit = every-flatMap Fits64 _ (members (o .n)) (λ m i. five-fits i)
+
+day-figures-fit : (p : Period) (c : DayCall) (room : ℕ) → Passes p c room × (0 < total (held p) (accountsBrought p c)) → Every Fits64 (total (held p) (accountsBrought p c) ∷ maxEul (held p) (accountsBrought p c) ∷ [])
+day-figures-fit p c room (s, t) =
+    (omega (arith, total-few s), (omega (arith, total-few s, max-le-total (held p) (accountsBrought p c)), tt))
+
+five-wide : (e top t : ℕ) → length (five e top t) ≡ 5
+unfolding five
+five-wide e top t = refl
+
+dailies-long : (o : Opening) (accts : List Account) → length (dailies o accts) ≡ 5 * o .n
+unfolding dailies
+dailies-long o accts = rows-length 5 _ (λ m. five-wide _ _ _) (members (o .n)) ∙ ap (λ (x : ℕ). 5 * x) (range-length 1 (o .n))
+
+-- ---- a closing that is accepted
+
+three-wide : (r : ℕ) → length (three r) ≡ 3
+unfolding three
+three-wide r = refl
+
+three-fits : (r : ℕ) → r ≤ 2 * greatestTotal → Every Fits64 (three r)
+unfolding three funded unfunded
+three-fits r h = (omega arith, (omega arith, (omega arith, tt)))
+
+module _ {p : Period} {room : ℕ} (c : Closable p room) (full : length (p .sums) ≡ 32) where
+  few : p .n ≤ 32
+  few = opening-leaves (held p) (in-range c .opened) .members-few
+
+  sums-long : length (sumsHeld p) ≡ p .n
+  sums-long = length-take-le (p .n) (p .sums) (omega (arith, few))
+
+  sum-few : (s : ℕ) → s ∈ sumsHeld p → s ≤ p .days * scale
+  sum-few = by-index (λ (s : ℕ). s ≤ p .days * scale) (sumsHeld p) 0 (λ i h. rw (getD-take {A = ℕ} (p .n) (p .sums) i 0 (omega (arith, sums-long))) (in-range c .sums i))
+
+  charge-few : {s : ℕ} → s ∈ sumsHeld p → chargeBy p s ≤ 2 * greatestTotal
+  unfolding charge
+  charge-few {s} i =
+      omega (arith, raw-le scale (p .highest) s (p .days) (omega arith) (c .some) (sum-few s i), in-range c .bounded)
+
+  funds-fit : Fits64 (Σ (sumsHeld p) (λ s. funded (chargeBy p s)))
+  unfolding funded
+  funds-fit =
+      omega (arith, few, sums-long, Σ-bound (sumsHeld p) (λ s. funded (chargeBy p s)) (3 * greatestTotal) (λ s i. omega (arith, charge-few i)))
+
+  closing-figures-fit : Every Fits64 (p .days ∷ p .highest ∷ Σ (sumsHeld p) (λ s. funded (chargeBy p s)) ∷ [])
+  closing-figures-fit =
+      let r = in-range c in
+      (omega (arith, r .counted, r .month), (omega (arith, r .bounded), (funds-fit, tt)))
+
+  closing-fits : Every Fits64 (flatMap (λ s. three (chargeBy p s)) (sumsHeld p))
+  closing-fits = every-flatMap Fits64 _ (sumsHeld p) (λ s i. three-fits _ (charge-few i))
+
+  closing-long : length (flatMap (λ s. three (chargeBy p s)) (sumsHeld p)) ≡ room
+  closing-long =
+      rows-length 3 _ (λ s. three-wide _) (sumsHeld p) ∙ ap (λ (x : ℕ). 3 * x) sums-long ∙ sym (c .room-long)
+
+-- ---- the period
+
+zeros-fit : Every Fits64 (replicate 32 0)
+zeros-fit = indexed Fits64 (replicate 32 0) (λ i. omega (arith, replicate-at {A = ℕ} 32 i 0))
+
+narrow-opened : (o : Opening) → badOpening o ≡ false → Narrow (openedPeriod o)
+narrow-opened o e =
+    let l = opening-leaves o e in
+    let group : (i : ℕ) → getD (o .groups) i 0 ≤ 32 = at-any (λ x. x ≤ 32) (o .groups) 0 (omega arith) (λ i h. l .group-few i (omega (arith, l .groups-long))) in
+    record {
+      n = omega (arith, l .members-few);
+      k = omega (arith, l .scenarios-few);
+      groups = every-map Fits64 (λ i. getD (o .groups) i 0) (range 0 32) (λ i m. omega (arith, group i));
+      groups-long = table-length (λ i. getD (o .groups) i 0) 0 32;
+      last = omega arith;
+      days = omega arith;
+      highest = omega arith;
+      sums = zeros-fit;
+      sums-long = refl;
+    }
+
+narrow-sized : (p : Period) (c : DayCall) → inRange (sizedPeriod p c) ≡ true → Narrow p → Narrow (sizedPeriod p c)
+narrow-sized p c e q =
+    let r = ranged (sizedPeriod p c) e in
+    record {
+      n = q .n;
+      k = q .k;
+      groups = q .groups;
+      groups-long = q .groups-long;
+      last = omega (arith, r .month);
+      days = omega (arith, r .counted, r .month);
+      highest = omega (arith, r .bounded);
+      sums = indexed Fits64 (sizedPeriod p c .sums) (λ i. omega (arith, r .sums i, r .counted, r .month));
+      sums-long = table-length (λ i. getD (p .sums) i 0 + shareAt p c i) 0 32;
+    }
+
+narrow-closed : (p : Period) → Narrow p → Narrow (closedPeriod p)
+narrow-closed p q =
+    record {
+      n = q .n;
+      k = q .k;
+      groups = q .groups;
+      groups-long = q .groups-long;
+      last = q .last;
+      days = q .days;
+      highest = q .highest;
+      sums = q .sums;
+      sums-long = q .sums-long;
+    }
+
+pub narrow-fresh : Narrow freshPeriod
+narrow-fresh =
+    record {
+      n = omega arith;
+      k = omega arith;
+      groups = zeros-fit;
+      groups-long = refl;
+      last = omega arith;
+      days = omega arith;
+      highest = omega arith;
+      sums = zeros-fit;
+      sums-long = refl;
+    }
+
+-- ---- a call, by what the refusal table says
+
+answer-fits : (x : Refusal) (figures : List ℕ) → RowFits x → (x ≡ Clear → Every Fits64 figures) → Every Fits64 (numbersIn (answerBy x figures))
+answer-fits Clear figures h f = f refl
+answer-fits (Row number) figures h f = (h, tt)
+answer-fits (RowAt number index) figures (h, i) f = (h, (i, tt))
+
+-- either of two
+either : {A : Type 0} (P : A → Type 0) (x : Refusal) (a b : A) → (x ≡ Clear → P a) → P b → P (ifAccepted x a b)
+either P Clear a b f h = f refl
+either P (Row number) a b f h = h
+either P (RowAt number index) a b f h = h
+
+pub fits : {p : Period} → Narrow p → (c : Made) → Meets p c → Fits c
+unfolding openingRow openingRefusal
+fits {p} q (Made.opening o r) m =
+    record {
+      answer = rw (m .answer) (answer-fits (openingRow p o) [] (opening-row-fits p o) (λ e. tt));
+      period = subst Narrow (sym (m .period)) (either Narrow (openingRow p o) _ p (λ e. narrow-opened o (passed 1 (badOpening o) Clear (passed 2 (isOpen (statusOf p)) _ e .1) .0)) q);
+      buffer = λ b. tt;
+      long = refl;
+    }
+fits {p} q (Made.day c out r after) m =
+    let x = dayRow p c (length out) in
+    let pass : x ≡ Clear → Passes p c (length out) × (0 < total (held p) (accountsBrought p c)) = passes p c (length out) in
+    record {
+      answer = rw (m .answer) (answer-fits x _ (day-row-fits p c (length out)) (λ e. day-figures-fit p c (length out) (pass e)));
+      period = subst Narrow (sym (m .period)) (either Narrow x _ p (λ e. narrow-sized p c (sized-in-range p c (pass e .0) (pass e .1)) q) q);
+      buffer = λ b. subst (Every Fits64) (sym (m .buffer)) (either (Every Fits64) x _ out (λ e. dailies-fit (held p) (accountsBrought p c) (pass e .1) (total-few (pass e .0))) b);
+      long = ap length (m .buffer) ∙ either (λ (l : List ℕ). length l ≡ length out) x _ out (λ e. dailies-long (held p) (accountsBrought p c) ∙ sym (room-long (pass e .0))) refl;
+    }
+fits {p} q (Made.closing out r after) m =
+    let x = closingRow p (length out) in
+    let pass : x ≡ Clear → Closable p (length out) = closable p (length out) in
+    record {
+      answer = rw (m .answer) (answer-fits x _ (closing-row-fits p (length out)) (λ e. closing-figures-fit (pass e) (q .sums-long)));
+      period = subst Narrow (sym (m .period)) (either Narrow x _ p (λ e. narrow-closed p q) q);
+      buffer = λ b. subst (Every Fits64) (sym (m .buffer)) (either (Every Fits64) x _ out (λ e. closing-fits (pass e) (q .sums-long)) b);
+      long = ap length (m .buffer) ∙ either (λ (l : List ℕ). length l ≡ length out) x _ out (λ e. closing-long (pass e) (q .sums-long)) refl;
+    }
+
+-- ---- every list of arguments has a run
+
+-- an outcome with the answer that a contract names
+outcomeBy : Refusal → (acceptance : Outcome) → Outcome
+outcomeBy Clear o = o
+outcomeBy (Row number) o = says.Refused number
+outcomeBy (RowAt number index) o = says.RefusedAt number index
+
+answered : (x : Refusal) (o : Outcome) (figures : List ℕ) → answerOf o ≡ accepted figures → answerOf (outcomeBy x o) ≡ answerBy x figures
+unfolding outcomeBy
+answered Clear o figures e = e
+answered (Row number) o figures e = refl
+answered (RowAt number index) o figures e = refl
+
+-- the call that a contract names, and that it meets it
+madeBy : Period → Asked → Made
+madeBy p (Asked.opening o) =
+    Made.opening o (record { outcome = outcomeBy (openingRow p o) says.Opened; period = ifAccepted (openingRow p o) (openedPeriod o) p })
+madeBy p (Asked.day c out) =
+    let x = dayRow p c (length out) in
+    let accts = accountsBrought p c in
+    Made.day c out (record { outcome = outcomeBy x (says.Sized (total (held p) accts) (maxEul (held p) accts)); period = ifAccepted x (sizedPeriod p c) p }) (ifAccepted x (dailies (held p) accts) out)
+madeBy p (Asked.closing out) =
+    let x = closingRow p (length out) in
+    Made.closing out
+    (record { outcome = outcomeBy x (says.Closed (p .days) (p .highest) (Σ (sumsHeld p) (λ s. funded (chargeBy p s)))); period = ifAccepted x (closedPeriod p) p })
+    (ifAccepted x (flatMap (λ s. three (chargeBy p s)) (sumsHeld p)) out)
+
+meets : (p : Period) (a : Asked) → Meets p (madeBy p a)
+unfolding madeBy
+meets p (Asked.opening o) = record { answer = answered (openingRow p o) _ _ refl; period = refl }
+meets p (Asked.day c out) = record { answer = answered (dayRow p c (length out)) _ _ refl; period = refl; buffer = refl }
+meets p (Asked.closing out) = record { answer = answered (closingRow p (length out)) _ _ refl; period = refl; buffer = refl }
+
+asked-is : (p : Period) (a : Asked) → argumentsOf (madeBy p a) ≡ a
+unfolding madeBy
+asked-is p (Asked.opening o) = refl
+asked-is p (Asked.day c out) = refl
+asked-is p (Asked.closing out) = refl
+
+pub has-run : {p : Period} → Narrow p → (arguments : List Asked) → HasRun p arguments
+has-run q [] = record { made = []; same = refl; run = tt; fits = tt }
+has-run {p} q (a ∷ rest) =
+    let m = meets p a in
+    let f = fits q (madeBy p a) m in
+    let t = has-run (f .period) rest in
+    record {
+      made = madeBy p a ∷ t .made;
+      same = ap₂ (λ (x : Asked) (l : List Asked). x ∷ l) (asked-is p a) (t .same);
+      run = (m, t .run);
+      fits = (f, t .fits);
+    }

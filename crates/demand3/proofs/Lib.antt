@@ -1,0 +1,4 @@
+mod Covering
+mod Lists
+mod Fitting
+pub mod Demand3

@@ -1,0 +1,42 @@
+-- A closing that no row refuses: what its figures ask for holds.
+use mathlib.Core.Path.{_≡_}
+use mathlib.Core.Bool.{true, not}
+use Prim.Native.Nat.{ℕ, _*_, _≤_, _<_}
+use native.Mathlib.Omega.{arith}
+use lib.Dec.{eqb}
+use lib.ListN.{getD}
+use borrow.Author.Tests.{eqb-true, eqb-false, not-false}
+use Rattle.methodology.specs.declared.Refusal.the-variants.{Clear}
+use Rattle.methodology.specs.Refusals.{isOpen, closingRefusal}
+use Rattle.methodology.proofs.Passed.{passed}
+use Rattle.quotient.specs.Ranges.{Charge}
+use Rattle.validation.proofs.Opening.{opening-leaves}
+use Rattle.period.specs.declared.Period.{Period}
+use Rattle.period.specs.Calls.{held, statusOf, closingRow}
+use Rattle.period.proofs.Ranges.{Ranged, ranged, open-in-range}
+
+pub record Closable (p : Period) (room : ℕ) : Type 0 where
+  pub opened : isOpen (statusOf p) ≡ true
+  pub some : 0 < p .days
+  pub room-long : room ≡ 3 * p .n
+
+pub closable : (p : Period) (room : ℕ) → closingRow p room ≡ Clear → Closable p room
+unfolding closingRow closingRefusal
+closable p room e =
+    let (o, r₁) = passed 2 (not (isOpen (statusOf p))) _ e in
+    let (z, r₂) = passed 8 (eqb (p .days) 0) _ r₁ in
+    let (l, _) = passed 4 (not (eqb room (3 * p .n))) _ r₂ in
+    let positive = eqb-false (p .days) 0 z in
+    record { opened = not-false _ o; some = omega arith; room-long = eqb-true _ _ (not-false _ l) }
+
+module _ {p : Period} {room : ℕ} (c : Closable p room) where
+  pub in-range : Ranged p
+  in-range = ranged p (open-in-range p (c .opened))
+
+  pub members-few : p .n ≤ 32
+  members-few = opening-leaves (held p) (in-range .opened) .members-few
+
+  pub charges : (i : ℕ) → i < p .n → Charge (p .highest) (getD (p .sums) i 0) (p .days)
+  charges i h =
+      let r = in-range in
+      record { bounded = r .bounded; positive = c .some; month = omega (arith, r .counted, r .month); shares = r .sums i }

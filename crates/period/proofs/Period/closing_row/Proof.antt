@@ -1,0 +1,52 @@
+-- `closing_row` meets its contract: the rows in the order of the table.
+use borrow.Author.Needs.{needs}
+use mathlib.Core.Path.{_≡_, sym, ap, _∙_}
+use mathlib.Core.Bool.{Bool, true, false}
+use Prim.Native.Nat.{_≤_}
+use native.Mathlib.Omega.{arith}
+use borrow.Author.Tests.{eq-eqb, ne-eqb, not-true, not-false}
+use Rattle.methodology.specs.Refusals.{row_when_else_, isOpen, closingRefusal}
+use Rattle.validation.proofs.Opening.{opening-leaves}
+use Rattle.period.specs.Calls.{held, statusOf, closingRow}
+use Rattle.period.proofs.Ranges.{ranged, open-in-range}
+use Rattle.period.proofs.Period.closing_row.Statement.{statement}
+use Rattle.period.proofs.Period.closing_row.Tie as tie
+
+-- what `is_open` found
+found : (c : tie.After-is-open) (b : Bool) → c .is-open .result ≡ b → isOpen (statusOf (c .before .before .args .self)) ≡ b
+found c b e = ap isOpen (sym (c .before .status-of .ensures)) ∙ sym (c .is-open .ensures) ∙ e
+
+opened : (c : tie.Else1) → isOpen (statusOf (c .before .before .before .args .self)) ≡ true
+opened c = found (c .before) true (not-false _ (c .if1 .left))
+
+status-of-requires : tie.Need-status-of-requires
+status-of-requires c κs = search needs
+
+is-open-requires : tie.Need-is-open-requires
+is-open-requires c κs = search needs
+
+returns : tie.Need-returns
+unfolding closingRow closingRefusal row_when_else_
+returns c = rw (found (c .before) false (not-true _ (c .if1 .taken)))
+
+returns-2 : tie.Need-returns-2
+unfolding closingRow closingRefusal row_when_else_
+returns-2 c = rw (opened (c .before), eq-eqb _ _ (c .if2 .taken))
+
+mul-if3 : tie.Need-mul-if3
+mul-if3 c =
+    let l = opening-leaves _ (ranged _ (open-in-range _ (opened (c .before))) .opened) in
+    omega (arith, l .members-few)
+
+returns-3 : tie.Need-returns-3
+unfolding closingRow closingRefusal row_when_else_
+returns-3 c = rw (opened (c .before .before), ne-eqb _ _ (c .before .if2 .left), ne-eqb _ _ (c .if3 .taken))
+
+returns-4 : tie.Need-returns-4
+unfolding closingRow closingRefusal row_when_else_
+returns-4 c = rw (opened (c .before .before), ne-eqb _ _ (c .before .if2 .left), eq-eqb _ _ (c .if3 .left))
+
+pub closing-row-spec : {M : Type 1} → statement M
+closing-row-spec =
+    tie.close
+    (tie.spec status-of-requires is-open-requires returns returns-2 mul-if3 returns-3 returns-4)
