@@ -10,6 +10,7 @@ use libc::STDOUT_FILENO;
 use period::Outcome;
 use period::Period;
 use period::Reply;
+use printing::packed;
 use printing::put_rows;
 ghost use Prim.Native.Nat.{_≤_, _<_};
 
@@ -77,7 +78,8 @@ fn day(
     extras: &[u64],
     out: &mut [u64],
 ) -> Period {
-    let reply = period.day(number, members, numbers, kinds, npvs, margins, extras, out);
+    let headings = packed(members, numbers, kinds);
+    let reply = period.day_of(number, headings, members.len(), npvs, margins, extras, out);
     let next = step(call, reply);
     put_rows(out, 5);
     next
@@ -141,26 +143,23 @@ fn good(call: u64, period: Period, number: u64) -> Period {
     houses(call, period, number, LOSS, NONE, NONE)
 }
 
-// A good day but for the lengths of its slices and of the buffer. From the third on, every account has the same heading.
+// A good day but for the number of its headings and the lengths of its slices and of the buffer. From the third on, every account has the
+// same heading.
 fn with_lengths(
     call: u64,
     period: Period,
     number: u64,
-    members: usize,
-    numbers: usize,
-    kinds: usize,
+    headings: usize,
     npvs: usize,
     margins: usize,
     extras: usize,
     room: usize,
 ) -> Period
-    requires { ⌜ (members ≤ 257) × (numbers ≤ 257) × (kinds ≤ 257) × (npvs ≤ 514) × (margins ≤ 257) × (extras ≤ 257) × (room ≤ 16) ⌝ }
+    requires { ⌜ (headings ≤ 257) × (npvs ≤ 514) × (margins ≤ 257) × (extras ≤ 257) × (room ≤ 16) ⌝ }
 {
     let mut all_members = [3; 257];
     all_members[0] = 1;
     all_members[1] = 2;
-    let all_numbers = [0; 257];
-    let all_kinds = [0; 257];
     let mut all_npvs = [0; 514];
     all_npvs[0] = 50;
     let all_margins = [0; 257];
@@ -170,9 +169,9 @@ fn with_lengths(
         call,
         period,
         number,
-        &all_members[..members],
-        &all_numbers[..numbers],
-        &all_kinds[..kinds],
+        &all_members[..headings],
+        &[0],
+        &[0],
         &all_npvs[..npvs],
         &all_margins[..margins],
         &all_extras[..extras],
@@ -226,7 +225,7 @@ fn with_amounts(
 fn fresh(p: Period) -> Period {
     // Row 2; also where 4 or 8 holds with it.
     let p = good(1, p, 1);
-    let p = with_lengths(2, p, 1, 0, 0, 0, 0, 0, 0, 15);
+    let p = with_lengths(2, p, 1, 0, 0, 0, 0, 15);
     let p = closing(3, p, &mut [7; 9]);
     // Row 1 by n, k, a group and the list's length.
     let p = opening(4, p, 0, 1, &[]);
@@ -286,24 +285,25 @@ fn lengths(p: Period) -> Period {
     let p = good(24, p, 4);
     let p = good(25, p, 3);
     // 4 comes before 3, and 3 before 5.
-    let p = with_lengths(26, p, 3, 3, 3, 3, 6, 3, 3, 14);
-    let p = with_lengths(27, p, 3, 4, 4, 4, 8, 4, 4, 15);
-    // Row 4 by no accounts and by 257. 256 are not too many; here the fourth is bad.
-    let p = with_lengths(28, p, 5, 0, 0, 0, 0, 0, 0, 15);
-    let p = with_lengths(29, p, 5, 257, 257, 257, 514, 257, 257, 15);
-    let p = with_lengths(30, p, 5, 256, 256, 256, 512, 256, 256, 15);
-    // By members, account numbers, kinds, NPVs, margins, extras and the buffer.
-    let p = with_lengths(31, p, 5, 2, 3, 3, 6, 3, 3, 15);
-    let p = with_lengths(32, p, 5, 3, 2, 3, 6, 3, 3, 15);
-    let p = with_lengths(33, p, 5, 3, 3, 4, 6, 3, 3, 15);
-    let p = with_lengths(34, p, 5, 3, 3, 3, 5, 3, 3, 15);
-    let p = with_lengths(35, p, 5, 3, 3, 3, 7, 3, 3, 15);
-    let p = with_lengths(36, p, 5, 3, 3, 3, 6, 2, 3, 15);
-    let p = with_lengths(37, p, 5, 3, 3, 3, 6, 3, 4, 15);
-    let p = with_lengths(38, p, 5, 3, 3, 3, 6, 3, 3, 14);
-    let p = with_lengths(39, p, 5, 3, 3, 3, 6, 3, 3, 16);
-    let p = with_lengths(40, p, 5, 3, 3, 3, 6, 3, 3, 0);
-    with_lengths(41, p, 5, 3, 3, 3, 6, 3, 3, 15)
+    let p = with_lengths(26, p, 3, 3, 6, 3, 3, 14);
+    let p = with_lengths(27, p, 3, 4, 8, 4, 4, 15);
+    // Row 4 by no accounts, and by 257 of everything but the headings, of which an array holds 256. 256 are not too many; here the fourth
+    // is bad.
+    let p = with_lengths(28, p, 5, 0, 0, 0, 0, 15);
+    let p = with_lengths(29, p, 5, 257, 514, 257, 257, 15);
+    let p = with_lengths(30, p, 5, 256, 512, 256, 256, 15);
+    // By headings, NPVs, margins, extras and the buffer.
+    let p = with_lengths(31, p, 5, 2, 6, 3, 3, 15);
+    let p = with_lengths(32, p, 5, 4, 6, 3, 3, 15);
+    let p = with_lengths(33, p, 5, 257, 6, 3, 3, 15);
+    let p = with_lengths(34, p, 5, 3, 5, 3, 3, 15);
+    let p = with_lengths(35, p, 5, 3, 7, 3, 3, 15);
+    let p = with_lengths(36, p, 5, 3, 6, 2, 3, 15);
+    let p = with_lengths(37, p, 5, 3, 6, 3, 4, 15);
+    let p = with_lengths(38, p, 5, 3, 6, 3, 3, 14);
+    let p = with_lengths(39, p, 5, 3, 6, 3, 3, 16);
+    let p = with_lengths(40, p, 5, 3, 6, 3, 3, 0);
+    with_lengths(41, p, 5, 3, 6, 3, 3, 15)
 }
 
 // Row 5, and day 6, accepted with the greatest account number.
@@ -382,7 +382,7 @@ fn closed(p: Period) -> Period {
     let p = closing(82, p, &mut [7; 9]);
     let p = closing(83, p, &mut [7; 8]);
     let p = good(84, p, 31);
-    let p = with_lengths(85, p, 31, 0, 0, 0, 0, 0, 0, 15);
+    let p = with_lengths(85, p, 31, 0, 0, 0, 0, 15);
     let p = opening(86, p, 2, 17, &[0; 2]);
     good(87, p, 31)
 }

@@ -8,12 +8,12 @@ use lib.ListN.{length, getD}
 use Rattle.numbers.specs.Sums.{Σ}
 use Rattle.numbers.specs.Lists.{range}
 use Rattle.numbers.specs.Fractions.{Proper}
-use Rattle.numbers.proofs.Lists.{_∈_, mem-range, range-at, range-length}
+use Rattle.numbers.proofs.Lists.{mem-range, range-at, range-length}
 use Rattle.numbers.proofs.Rows.{rows-at, rows-length}
 use Rattle.numbers.proofs.Sums.{Σ-eq}
 use Rattle.methodology.specs.Account.{Opening, members}
 use Rattle.methodology.specs.Day.{total}
-use Rattle.methodology.specs.Contribution.{KeptDay, highest, raw, funded, exactCharge, shortfall, allowance, three, contributions, totalFunded}
+use Rattle.methodology.specs.Contribution.{KeptDay, highest, raw, funded, shortfall, allowance, three, contributions, totalFunded}
 use Rattle.methodology.specs.Register.{Call, Register, returned, written, accepted}
 use Rattle.fund.specs.Counted.{Counted}
 use Rattle.fund.proofs.Cover.{exact-proper, raw-least, raw-close, raws-least, raws-close, funded-sum}

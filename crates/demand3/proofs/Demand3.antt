@@ -20,7 +20,7 @@ use Rattle.methodology.specs.declared.Refusal.the-variants.{Clear}
 use Rattle.methodology.specs.Register.{Call, start, refusal}
 use Rattle.period.specs.declared.Period.{Period}
 use Rattle.period.specs.declared.Reply.{Reply}
-use Rattle.period.specs.Reading.{brought, dayCall, answerOf}
+use Rattle.period.specs.Reading.{brought, dayBrought, answerOf}
 use Rattle.period.specs.Calls.{freshPeriod}
 use Rattle.period.proofs.Period.fresh as fresh-fn
 use Rattle.period.proofs.Period.opening as opening-fn
@@ -43,7 +43,7 @@ use Rattle.demand3.proofs.Fitting.{narrow-fresh, has-run}
 -- A call as the logic has it: its arguments, its result, and what its parameters refer to at exit.
 pub data Called : Type 0 where
   opening : (κs : Lfts 1) (a : Args opening-fn.signature κs) (r : Res opening-fn.signature κs) (e : AtExit opening-fn.ended κs) → Called
-  day : (κs : Lfts 7) (a : Args day-fn.signature κs) (r : Res day-fn.signature κs) (e : AtExit day-fn.ended κs) → Called
+  day : (κs : Lfts 5) (a : Args day-fn.signature κs) (r : Res day-fn.signature κs) (e : AtExit day-fn.ended κs) → Called
   closing : (κs : Lfts 1) (a : Args closing-fn.signature κs) (r : Res closing-fn.signature κs) (e : AtExit closing-fn.ended κs) → Called
 
 -- the period that it was given
@@ -52,22 +52,15 @@ given (opening κs a r e) = a .0
 given (day κs a r e) = a .0
 given (closing κs a r e) = a .0
 
--- the call in plain values; the places of a day are 0 self, 1 number, 2 to 7 the slices of its accounts, 8 out
+-- the call in plain values; the places of a day are 0 self, 1 number, 2 headings, 3 NPVs, 4 margins, 5 extras, 6 out
 abbrev pub made : Called → Made
 made (opening κs a r e) = Made.opening (brought (a .1 .0) (a .1 .1 .0) (now (a .1 .1 .1 .0))) r
 made (day κs a r e) =
     Made.day
-    (dayCall
-    (a .1 .0)
-    (now (a .1 .1 .0))
-    (now (a .1 .1 .1 .0))
-    (now (a .1 .1 .1 .1 .0))
-    (now (a .1 .1 .1 .1 .1 .0))
+    (dayBrought (a .1 .0) (now (a .1 .1 .0)) (now (a .1 .1 .1 .0)) (now (a .1 .1 .1 .1 .0)) (now (a .1 .1 .1 .1 .1 .0)))
     (now (a .1 .1 .1 .1 .1 .1 .0))
-    (now (a .1 .1 .1 .1 .1 .1 .1 .0)))
-    (now (a .1 .1 .1 .1 .1 .1 .1 .1 .0))
     r
-    (now (e .1 .1 .1 .1 .1 .1 .1 .1 .0))
+    (now (e .1 .1 .1 .1 .1 .1 .0))
 made (closing κs a r e) = Made.closing (now (a .1 .0)) r (now (e .1 .0))
 
 -- what its contract's `requires` and `ensures` say, as they were generated from the code

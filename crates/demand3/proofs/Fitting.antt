@@ -2,16 +2,16 @@
 -- by the range of an open period.
 use mathlib.Core.Path.{_≡_, refl, sym, ap, ap₂, subst, _∙_}
 use mathlib.Core.Bool.{Bool, true, false, not, _||_}
-use mathlib.Core.List.{List, [], _∷_, map, flatMap}
-use Prim.Native.Nat.{ℕ, _+_, _*_, _^_, _≤_, _<_, max}
+use mathlib.Core.List.{List, [], _∷_, flatMap}
+use Prim.Native.Nat.{ℕ, _+_, _*_, _≤_, _<_}
 use native.Mathlib.Omega.{arith}
 use lib.Dec.{ltb, eqb}
-use lib.ListN.{length, getD, take, replicate}
+use lib.ListN.{length, getD, replicate}
 use lib.Seq.{getD-take, length-take-le}
 use Rattle.numbers.specs.Lists.{range, firstWhere, Every}
 use Rattle.numbers.specs.Sums.{Σ}
 use Rattle.numbers.specs.Rounding.{roundDiv}
-use Rattle.numbers.proofs.Lists.{_∈_, mem-range, by-index, at-any, replicate-at, first-le, range-length, table-length, mem-every, every-map, every-flatMap}
+use Rattle.numbers.proofs.Lists.{_∈_, by-index, at-any, replicate-at, first-le, range-length, table-length, mem-every, every-map, every-flatMap}
 use Rattle.numbers.proofs.Rows.{rows-length}
 use Rattle.numbers.proofs.Sums.{Σ-bound}
 use Rattle.methodology.specs.declared.Refusal.{Refusal}
@@ -19,7 +19,7 @@ use Rattle.methodology.specs.declared.Refusal.the-variants.{Clear, Row, RowAt}
 use Rattle.methodology.specs.Account.{Opening, DayInput, Account, members, accounts, nobody}
 use Rattle.methodology.specs.Member.{loss}
 use Rattle.methodology.specs.Day.{total, maxEul, scale, share, value, reserve, estimate, five, dailies}
-use Rattle.methodology.specs.Contribution.{charge, minimum, funded, unfunded, three}
+use Rattle.methodology.specs.Contribution.{charge, funded, unfunded, three}
 use Rattle.methodology.specs.Refusals.{row_when_else_, row_at_when_else_, isOpen, badOpening, openingRefusal, badLengths, badDayNumber, firstBadHeading, lastMissing, badAmount, dayRefusal, closingRefusal}
 use Rattle.methodology.specs.Register.{ifAccepted, accepted, answerBy}
 use Rattle.methodology.proofs.Passed.{passed}
@@ -30,16 +30,14 @@ use Rattle.validation.proofs.Opening.{opening-leaves}
 use Rattle.validation.proofs.Day.{sized}
 use Rattle.exposure.proofs.MaxTotal.{loss-le-total, max-le-total}
 use Rattle.period.specs.declared.Period.{Period}
-use Rattle.period.specs.declared.Reply.{Reply}
 use Rattle.period.specs.declared.Outcome.{Outcome}
 use Rattle.period.specs.declared.Outcome.the-variants as says
-use Rattle.period.specs.Reading.{answerOf, DayCall, dayBrought}
-use Rattle.period.specs.Calls.{freshPeriod, held, inRange, statusOf, openingRow, openedPeriod, OpeningMeets, accountsBrought, dayRow, shareAt, sizedPeriod, DayMeets, closingRow, sumsHeld, chargeBy, closedPeriod, ClosingMeets}
+use Rattle.period.specs.Reading.{answerOf}
+use Rattle.period.specs.Calls.{freshPeriod, held, inRange, statusOf, openingRow, openedPeriod, accountsBrought, dayRow, shareAt, sizedPeriod, closingRow, sumsHeld, chargeBy, closedPeriod}
 use Rattle.period.specs.Rows.{Passes}
-use Rattle.period.proofs.Replies.{opening-passed}
-use Rattle.period.proofs.Ranges.{Ranged, ranged}
-use Rattle.period.proofs.Sizing.{members-few, room-long, total-few}
-use Rattle.period.proofs.Closings.{Closable, closable, in-range, charges}
+use Rattle.period.proofs.Ranges.{ranged}
+use Rattle.period.proofs.Sizing.{accounts-long, room-long, total-few}
+use Rattle.period.proofs.Closings.{Closable, closable, in-range}
 use Rattle.period.proofs.Reach.{passes, sized-in-range}
 use Rattle.demand3.specs.Runs.{Asked, Made, argumentsOf, Meets}
 use Rattle.demand3.specs.Demand3.{Fits64, numbersIn, Narrow, Fits, HasRun}
@@ -73,14 +71,9 @@ closing-row-fits p room =
     (λ e. when-fits 8 (eqb (p .days) 0) _ (omega arith)
     (λ e. when-fits 4 (not (eqb room (3 * p .n))) Clear (omega arith) (λ e. tt)))
 
-accounts-long : (k : ℕ) (d : DayInput) → length (accounts k d) ≡ length (d .headings)
-unfolding accounts
-accounts-long k d = table-length _ 0 (length (d .headings))
-
-day-row-fits : (p : Period) (c : DayCall) (room : ℕ) → RowFits (dayRow p c room)
+day-row-fits : (p : Period) (d : DayInput) (room : ℕ) → RowFits (dayRow p d room)
 unfolding dayRow dayRefusal
-day-row-fits p c room =
-    let d = dayBrought c in
+day-row-fits p d room =
     let o = held p in
     let hs = d .headings in
     let accts = accounts (p .k) d in
@@ -114,9 +107,9 @@ module _ (o : Opening) (accts : List Account) (positive : 0 < total o accts) (fe
   unfolding dailies
   dailies-fit = every-flatMap Fits64 _ (members (o .n)) (λ m i. five-fits i)
 
-day-figures-fit : (p : Period) (c : DayCall) (room : ℕ) → Passes p c room × (0 < total (held p) (accountsBrought p c)) → Every Fits64 (total (held p) (accountsBrought p c) ∷ maxEul (held p) (accountsBrought p c) ∷ [])
-day-figures-fit p c room (s, t) =
-    (omega (arith, total-few s), (omega (arith, total-few s, max-le-total (held p) (accountsBrought p c)), tt))
+day-figures-fit : (p : Period) (d : DayInput) (room : ℕ) → Passes p d room × (0 < total (held p) (accountsBrought p d)) → Every Fits64 (total (held p) (accountsBrought p d) ∷ maxEul (held p) (accountsBrought p d) ∷ [])
+day-figures-fit p d room (s, t) =
+    (omega (arith, total-few s), (omega (arith, total-few s, max-le-total (held p) (accountsBrought p d)), tt))
 
 five-wide : (e top t : ℕ) → length (five e top t) ≡ 5
 unfolding five
@@ -189,9 +182,9 @@ narrow-opened o e =
       sums-long = refl;
     }
 
-narrow-sized : (p : Period) (c : DayCall) → inRange (sizedPeriod p c) ≡ true → Narrow p → Narrow (sizedPeriod p c)
-narrow-sized p c e q =
-    let r = ranged (sizedPeriod p c) e in
+narrow-sized : (p : Period) (d : DayInput) → inRange (sizedPeriod p d) ≡ true → Narrow p → Narrow (sizedPeriod p d)
+narrow-sized p d e q =
+    let r = ranged (sizedPeriod p d) e in
     record {
       n = q .n;
       k = q .k;
@@ -200,8 +193,8 @@ narrow-sized p c e q =
       last = omega (arith, r .month);
       days = omega (arith, r .counted, r .month);
       highest = omega (arith, r .bounded);
-      sums = indexed Fits64 (sizedPeriod p c .sums) (λ i. omega (arith, r .sums i, r .counted, r .month));
-      sums-long = table-length (λ i. getD (p .sums) i 0 + shareAt p c i) 0 32;
+      sums = indexed Fits64 (sizedPeriod p d .sums) (λ i. omega (arith, r .sums i, r .counted, r .month));
+      sums-long = table-length (λ i. getD (p .sums) i 0 + shareAt p d i) 0 32;
     }
 
 narrow-closed : (p : Period) → Narrow p → Narrow (closedPeriod p)
@@ -254,14 +247,14 @@ fits {p} q (Made.opening o r) m =
       buffer = λ b. tt;
       long = refl;
     }
-fits {p} q (Made.day c out r after) m =
-    let x = dayRow p c (length out) in
-    let pass : x ≡ Clear → Passes p c (length out) × (0 < total (held p) (accountsBrought p c)) = passes p c (length out) in
+fits {p} q (Made.day d out r after) m =
+    let x = dayRow p d (length out) in
+    let pass : x ≡ Clear → Passes p d (length out) × (0 < total (held p) (accountsBrought p d)) = passes p d (length out) in
     record {
-      answer = rw (m .answer) (answer-fits x _ (day-row-fits p c (length out)) (λ e. day-figures-fit p c (length out) (pass e)));
-      period = subst Narrow (sym (m .period)) (either Narrow x _ p (λ e. narrow-sized p c (sized-in-range p c (pass e .0) (pass e .1)) q) q);
-      buffer = λ b. subst (Every Fits64) (sym (m .buffer)) (either (Every Fits64) x _ out (λ e. dailies-fit (held p) (accountsBrought p c) (pass e .1) (total-few (pass e .0))) b);
-      long = ap length (m .buffer) ∙ either (λ (l : List ℕ). length l ≡ length out) x _ out (λ e. dailies-long (held p) (accountsBrought p c) ∙ sym (room-long (pass e .0))) refl;
+      answer = rw (m .answer) (answer-fits x _ (day-row-fits p d (length out)) (λ e. day-figures-fit p d (length out) (pass e)));
+      period = subst Narrow (sym (m .period)) (either Narrow x _ p (λ e. narrow-sized p d (sized-in-range p d (pass e .0) (pass e .1)) q) q);
+      buffer = λ b. subst (Every Fits64) (sym (m .buffer)) (either (Every Fits64) x _ out (λ e. dailies-fit (held p) (accountsBrought p d) (pass e .1) (total-few (pass e .0))) b);
+      long = ap length (m .buffer) ∙ either (λ (l : List ℕ). length l ≡ length out) x _ out (λ e. dailies-long (held p) (accountsBrought p d) ∙ sym (room-long (pass e .0))) refl;
     }
 fits {p} q (Made.closing out r after) m =
     let x = closingRow p (length out) in
@@ -291,10 +284,10 @@ answered (RowAt number index) o figures e = refl
 madeBy : Period → Asked → Made
 madeBy p (Asked.opening o) =
     Made.opening o (record { outcome = outcomeBy (openingRow p o) says.Opened; period = ifAccepted (openingRow p o) (openedPeriod o) p })
-madeBy p (Asked.day c out) =
-    let x = dayRow p c (length out) in
-    let accts = accountsBrought p c in
-    Made.day c out (record { outcome = outcomeBy x (says.Sized (total (held p) accts) (maxEul (held p) accts)); period = ifAccepted x (sizedPeriod p c) p }) (ifAccepted x (dailies (held p) accts) out)
+madeBy p (Asked.day d out) =
+    let x = dayRow p d (length out) in
+    let accts = accountsBrought p d in
+    Made.day d out (record { outcome = outcomeBy x (says.Sized (total (held p) accts) (maxEul (held p) accts)); period = ifAccepted x (sizedPeriod p d) p }) (ifAccepted x (dailies (held p) accts) out)
 madeBy p (Asked.closing out) =
     let x = closingRow p (length out) in
     Made.closing out
@@ -304,13 +297,13 @@ madeBy p (Asked.closing out) =
 meets : (p : Period) (a : Asked) → Meets p (madeBy p a)
 unfolding madeBy
 meets p (Asked.opening o) = record { answer = answered (openingRow p o) _ _ refl; period = refl }
-meets p (Asked.day c out) = record { answer = answered (dayRow p c (length out)) _ _ refl; period = refl; buffer = refl }
+meets p (Asked.day d out) = record { answer = answered (dayRow p d (length out)) _ _ refl; period = refl; buffer = refl }
 meets p (Asked.closing out) = record { answer = answered (closingRow p (length out)) _ _ refl; period = refl; buffer = refl }
 
 asked-is : (p : Period) (a : Asked) → argumentsOf (madeBy p a) ≡ a
 unfolding madeBy
 asked-is p (Asked.opening o) = refl
-asked-is p (Asked.day c out) = refl
+asked-is p (Asked.day d out) = refl
 asked-is p (Asked.closing out) = refl
 
 pub has-run : {p : Period} → Narrow p → (arguments : List Asked) → HasRun p arguments

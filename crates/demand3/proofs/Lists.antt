@@ -1,8 +1,8 @@
 -- Demand 3 of every list of calls: by the calls one after another, each of which the register follows.
-use mathlib.Core.Path.{_≡_, refl, sym, ap, subst, _∙_}
+use mathlib.Core.Path.{_≡_, refl, _∙_}
 use mathlib.Core.Bool.{not}
 use mathlib.Core.List.{List, [], _∷_, _++_}
-use Prim.Native.Nat.{ℕ, _*_, _<_}
+use Prim.Native.Nat.{ℕ, _<_}
 use native.Mathlib.Omega.{arith}
 use lib.Dec.{eqb}
 use lib.ListN.{length}
@@ -53,7 +53,7 @@ pub one : {g : Register} {p : Period} → Follows g p → (c : Made) → Meets p
 one {g} f (Made.opening o r) m =
     let (f′, e) = opening-follows f m in
     (f′, record { answer = e; buffer = nothing-written g o; period = f′ .is }, tt)
-one {g} f (Made.day c out r after) m =
+one {g} f (Made.day d out r after) m =
     let (f′, e, w) = day-follows f m in
     (f′, record { answer = e; buffer = w; period = f′ .is }, tt)
 one {g} f (Made.closing out r after) m =

@@ -64,7 +64,7 @@ pub record Covers (g : Register) (said : Answer) (out : List ℕ) : Type 0 where
 -- what demand 3 adds "where the last call is an accepted closing of n members"
 abbrev pub AtClosing : Register → Made → Type 0
 AtClosing g (Made.opening o r) = Unit {0}
-AtClosing g (Made.day c out r after) = Unit {0}
+AtClosing g (Made.day d out r after) = Unit {0}
 AtClosing g (Made.closing out r after) =
     refusal g (Call.closing (length out)) ≡ Clear → Covers (step g (Call.closing (length out))) (answerOf (r .outcome)) after
 

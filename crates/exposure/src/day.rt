@@ -6,7 +6,6 @@ use crate::rows::row_greatest;
 use crate::rows::rows_greatest;
 use crate::rows::scenario_row;
 use numbers::greater;
-ghost use mathlib.Core.Path.{_≡_};
 ghost use Prim.Native.Nat.{ℕ, _+_, _≤_, _<_};
 ghost use lib.ListN.{length, getD};
 ghost use Rattle.validation.specs.Slices.{Within, Rising};

@@ -5,7 +5,6 @@ use numbers::greater;
 use numbers::lesser;
 ghost use mathlib.Core.Path.{_≡_};
 ghost use mathlib.Core.Bool.{cond};
-ghost use mathlib.Core.List.{[]};
 ghost use Prim.Native.Nat.{_+_, _*_, _/_, _≤_};
 ghost use lib.Dec.{eqb};
 ghost use lib.IntN.{natAbs};

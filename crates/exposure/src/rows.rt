@@ -3,7 +3,6 @@ use crate::member::gain;
 use crate::member::member_eul;
 use numbers::greater;
 ghost use mathlib.Core.Path.{_≡_};
-ghost use mathlib.Core.List.{[]};
 ghost use Prim.Native.Nat.{_≤_};
 ghost use lib.ListN.{length};
 ghost use Rattle.numbers.specs.Signed.{_⁺};

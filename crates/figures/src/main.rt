@@ -3,6 +3,7 @@
 // member's raw, funded and unfunded contribution.
 use period::Outcome;
 use period::Period;
+use printing::packed;
 use printing::put_rows;
 
 // A period that is open, with these groups and k scenarios.
@@ -25,7 +26,8 @@ fn size(
     extras: &[u64],
     out: &mut [u64],
 ) -> Period {
-    let reply = period.day(number, members, numbers, kinds, npvs, margins, extras, out);
+    let headings = packed(members, numbers, kinds);
+    let reply = period.day_of(number, headings, members.len(), npvs, margins, extras, out);
     let outcome = reply.outcome;
     if let Outcome::Sized(total, top) = outcome {
         put_rows(&[figure, total, top], 3);

@@ -4,7 +4,7 @@ use mathlib.Core.Bool.{Bool, true, false}
 use Prim.Native.Nat.{ℕ}
 use native.Mathlib.Omega.{arith}
 use Rattle.methodology.specs.declared.Refusal.{Refusal}
-use Rattle.methodology.specs.declared.Refusal.the-variants.{Clear, Row, RowAt}
+use Rattle.methodology.specs.declared.Refusal.the-variants.{Clear}
 use Rattle.methodology.specs.Refusals.{row_when_else_, row_at_when_else_}
 
 pub passed : (number : ℕ) (b : Bool) (rest : Refusal) → row number when b else rest ≡ Clear → (b ≡ false) × (rest ≡ Clear)

@@ -4,5 +4,6 @@ pub mod Ranges
 mod DayRows
 pub mod Sizing
 pub mod Closings
+mod Columns
 pub mod Reach
 pub mod Simulation

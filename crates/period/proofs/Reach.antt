@@ -1,16 +1,16 @@
 -- Every period that calls return is in range while it is open: the range test never decides, and row 2 reads as document 01 has it.
 -- By the last call: an opening sets every field, a day that the table lets pass keeps each within its limit, a refusal leaves all.
 use mathlib.Core.Path.{_≡_, refl, sym, subst, _∙_}
-use mathlib.Core.List.{List, []}
+use mathlib.Core.List.{List}
 use mathlib.Core.Bool.{Bool, true, false, not, _||_, cond, true≢false}
 use Prim.Native.Nat.{ℕ, _+_, _*_, _≤_, _<_, max}
 use native.Mathlib.Omega.{arith}
 use lib.Dec.{ltb, leb, eqb}
 use lib.ListN.{length, getD}
-use borrow.Author.Tests.{le-leb, le-ltb, ltb-false, ltb-true, leb-false, eqb-true, eqb-false, not-false}
+use borrow.Author.Tests.{le-leb, le-ltb, ltb-false, ltb-true, leb-false, eqb-false, not-false}
 use Rattle.numbers.specs.Lists.{range, any, firstWhere}
 use Rattle.numbers.proofs.Tests.{neither}
-use Rattle.numbers.proofs.Lists.{table-take, own-table, any-map, none-any, range-mem}
+use Rattle.numbers.proofs.Lists.{table-take, own-table, any-map, none-any, range-mem, first-le}
 use Rattle.methodology.specs.declared.Refusal.{Refusal}
 use Rattle.methodology.specs.declared.Refusal.the-variants.{Clear, Row, RowAt}
 use Rattle.methodology.specs.declared.Status.{Status}
@@ -24,16 +24,14 @@ use Rattle.methodology.proofs.Passed.{passed, passed-at}
 use Rattle.quotient.specs.Ranges.{greatestTotal}
 use Rattle.quotient.proofs.Bounds.{share-le}
 use Rattle.exposure.proofs.MaxTotal.{loss-le-total, max-le-total}
-use Rattle.validation.proofs.Headings.{headings-length, bad-heading-le}
+use Rattle.validation.proofs.Headings.{bad-heading-le}
 use Rattle.validation.proofs.Opening.{opening-leaves}
 use Rattle.period.specs.declared.Period.{Period}
 use Rattle.period.specs.declared.Reply.{Reply}
-use Rattle.period.specs.Reading.{DayCall, dayOf, headingsApart, dayBrought}
 use Rattle.period.specs.Calls.{freshPeriod, held, inRange, statusOf, openingRow, openedPeriod, OpeningMeets, accountsBrought, dayRow, shareAt, sizedPeriod, DayMeets, closingRow, closedPeriod, ClosingMeets}
 use Rattle.period.specs.Rows.{Passes}
 use Rattle.period.proofs.Ranges.{open-in-range}
-use Rattle.period.proofs.DayRows.{amounts-le}
-use Rattle.period.proofs.Sizing.{in-range, total-few}
+use Rattle.period.proofs.Sizing.{accounts-long, in-range, total-few}
 
 -- an opening
 pub held-opened : (o : Opening) → length (o .groups) ≡ o .n → o .n ≤ 32 → held (openedPeriod o) .groups ≡ o .groups
@@ -46,47 +44,30 @@ opened-in-range o e =
     let l = opening-leaves o e in
     rw (held-opened o (l .groups-long) (l .members-few), e)
 
--- a day, by whether its slices of headings are apart
-abbrev dayBy : DayCall → Bool → DayInput
-dayBy c b = record { number = c .number; headings = cond b [] (dayOf c .headings); npvs = c .npvs; margins = c .margins; extras = c .extras }
-
--- a table that lets it pass has found slices of one length, and so the day in them
-pub together : (p : Period) (c : DayCall) (room : ℕ) → dayRow p c room ≡ Clear → (headingsApart c ≡ false) × (dayRefusal (statusOf p) (held p) (p .last) (dayOf c) room ≡ Clear)
-unfolding dayRow dayBrought dayRefusal badLengths
-together p c room e = by (headingsApart c) e
-  where
-    by : (b : Bool) → dayRefusal (statusOf p) (held p) (p .last) (dayBy c b) room ≡ Clear → (b ≡ false) × (dayRefusal (statusOf p) (held p) (p .last) (dayOf c) room ≡ Clear)
-    by true e = absurd (true≢false (passed 4 (badLengths (held p) (dayBy c true) room) _ (passed 2 (not (isOpen (statusOf p))) _ e .1) .0))
-    by false e = (refl, e)
-
--- what it says of each row
-pub passes : (p : Period) (c : DayCall) (room : ℕ) → dayRow p c room ≡ Clear → Passes p c room × (0 < total (held p) (accountsBrought p c))
-unfolding dayRefusal
-passes p c room e =
-    let hs = dayOf c .headings in
+-- a day: what a table that lets it pass says of each row
+pub passes : (p : Period) (d : DayInput) (room : ℕ) → dayRow p d room ≡ Clear → Passes p d room × (0 < total (held p) (accountsBrought p d))
+unfolding dayRow dayRefusal
+passes p d room e =
+    let hs = d .headings in
     let bad5 = firstBadHeading (p .n) nobody hs in
-    let bad6 = firstWhere badAmount (accountsBrought p c) in
-    let (h, r₂) = together p c room e in
-    let (o, r₃) = passed 2 (not (isOpen (statusOf p))) _ r₂ in
-    let (e4, r₄) = passed 4 (badLengths (held p) (dayOf c) room) _ r₃ in
-    let (e3, r₅) = passed 3 (badDayNumber (p .last) (c .number)) _ r₄ in
-    let (e5, r₆) = passed-at 5 bad5 (ltb bad5 (length hs) || lastMissing (p .n) hs) _ r₅ in
-    let (e6, r₇) = passed-at 6 bad6 (ltb bad6 (length hs)) _ r₆ in
-    let (e7, _) = passed 7 (eqb (total (held p) (accountsBrought p c)) 0) _ r₇ in
-    let (a, b) = neither (not (eqb (length (c .numbers)) (length (c .members)))) (not (eqb (length (c .kinds)) (length (c .members)))) h in
+    let bad6 = firstWhere badAmount (accountsBrought p d) in
+    let (o, r₁) = passed 2 (not (isOpen (statusOf p))) _ e in
+    let (e4, r₂) = passed 4 (badLengths (held p) d room) _ r₁ in
+    let (e3, r₃) = passed 3 (badDayNumber (p .last) (d .number)) _ r₂ in
+    let (e5, r₄) = passed-at 5 bad5 (ltb bad5 (length hs) || lastMissing (p .n) hs) _ r₃ in
+    let (e6, r₅) = passed-at 6 bad6 (ltb bad6 (length hs)) _ r₄ in
+    let (e7, _) = passed 7 (eqb (total (held p) (accountsBrought p d)) 0) _ r₅ in
     let (f, m) = neither (ltb bad5 (length hs)) (lastMissing (p .n) hs) e5 in
     let open-now = not-false _ o in
-    let positive = eqb-false (total (held p) (accountsBrought p c)) 0 e7 in (
+    let positive = eqb-false (total (held p) (accountsBrought p d)) 0 e7 in (
       record {
         in-range = open-in-range p open-now;
         opened = open-now;
-        numbers-long = eqb-true _ _ (not-false _ a);
-        kinds-long = eqb-true _ _ (not-false _ b);
         lengths = e4;
         number = e3;
         headings = omega (arith, ltb-false bad5 (length hs) f, bad-heading-le (p .n) nobody hs);
         complete = m;
-        amounts = omega (arith, ltb-false bad6 (length hs) e6, amounts-le p c room, headings-length (c .members) (c .numbers) (c .kinds));
+        amounts = omega (arith, ltb-false bad6 (length hs) e6, first-le badAmount (accountsBrought p d), accounts-long (p .k) d);
       },
       omega arith,
     )
@@ -99,32 +80,32 @@ number-rises last number e =
     let (_, high) = neither (ltb number 1) (ltb 31 number) a in
     (ltb-false 31 number high, leb-false number last b)
 
-module _ (p : Period) (c : DayCall) {room : ℕ} (s : Passes p c room) (positive : 0 < total (held p) (accountsBrought p c)) where
-  share-few : (i : ℕ) → shareAt p c i ≤ scale
+module _ (p : Period) (d : DayInput) {room : ℕ} (s : Passes p d room) (positive : 0 < total (held p) (accountsBrought p d)) where
+  share-few : (i : ℕ) → shareAt p d i ≤ scale
   unfolding share
   share-few i = by (ltb i (p .n)) refl
     where
-      by : (t : Bool) → ltb i (p .n) ≡ t → cond t (share (loss (p .k) (accountsBrought p c) (i + 1)) (total (held p) (accountsBrought p c))) 0 ≤ scale
+      by : (t : Bool) → ltb i (p .n) ≡ t → cond t (share (loss (p .k) (accountsBrought p d) (i + 1)) (total (held p) (accountsBrought p d))) 0 ≤ scale
       by true q =
           let here : i < p .n = ltb-true i (p .n) q in
-          share-le scale _ _ positive (loss-le-total (held p) (accountsBrought p c) {m = i + 1} (range-mem 1 (p .n) (omega arith) (omega arith)))
+          share-le scale _ _ positive (loss-le-total (held p) (accountsBrought p d) {m = i + 1} (range-mem 1 (p .n) (omega arith) (omega arith)))
       by false q = omega arith
 
-  sums-few : any (ltb ((p .days + 1) * scale)) (sizedPeriod p c .sums) ≡ false
+  sums-few : any (ltb ((p .days + 1) * scale)) (sizedPeriod p d .sums) ≡ false
   sums-few =
       let r = in-range s in
-      any-map (ltb ((p .days + 1) * scale)) (λ i. getD (p .sums) i 0 + shareAt p c i) (range 0 32)
+      any-map (ltb ((p .days + 1) * scale)) (λ i. getD (p .sums) i 0 + shareAt p d i) (range 0 32)
       ∙ none-any _ (range 0 32) (λ i m. le-ltb ((p .days + 1) * scale) _ (omega (arith, r .sums i, share-few i)))
 
-  pub sized-in-range : inRange (sizedPeriod p c) ≡ true
+  pub sized-in-range : inRange (sizedPeriod p d) ≡ true
   unfolding inRange
   sized-in-range =
       let r = in-range s in
-      let (a, b) = number-rises (p .last) (c .number) (s .number) in
+      let (a, b) = number-rises (p .last) (d .number) (s .number) in
       rw (
-        le-leb (c .number) 31 a,
-        le-leb (p .days + 1) (c .number) (omega (arith, r .counted)),
-        le-leb (max (p .highest) (maxEul (held p) (accountsBrought p c))) greatestTotal (omega (arith, r .bounded, max-le-total (held p) (accountsBrought p c), total-few s)),
+        le-leb (d .number) 31 a,
+        le-leb (p .days + 1) (d .number) (omega (arith, r .counted)),
+        le-leb (max (p .highest) (maxEul (held p) (accountsBrought p d))) greatestTotal (omega (arith, r .bounded, max-le-total (held p) (accountsBrought p d), total-few s)),
         r .opened,
         sums-few,
       )
@@ -133,7 +114,7 @@ module _ (p : Period) (c : DayCall) {room : ℕ} (s : Passes p c room) (positive
 pub data Reached : Period → Type 0 where
   fresh : Reached freshPeriod
   by-opening : {p : Period} {o : Opening} {r : Reply} → Reached p → OpeningMeets p o r → Reached (r .period)
-  by-day : {p : Period} {c : DayCall} {before : List ℕ} {r : Reply} {after : List ℕ} → Reached p → DayMeets p c before r after → Reached (r .period)
+  by-day : {p : Period} {d : DayInput} {before : List ℕ} {r : Reply} {after : List ℕ} → Reached p → DayMeets p d before r after → Reached (r .period)
   by-closing : {p : Period} {before : List ℕ} {r : Reply} {after : List ℕ} → Reached p → ClosingMeets p before r after → Reached (r .period)
 
 abbrev Sound : Period → Type 0
@@ -149,8 +130,8 @@ opening-sound : (p : Period) (o : Opening) → openingRow p o ≡ Clear → Soun
 unfolding openingRow openingRefusal
 opening-sound p o e = λ q. opened-in-range o (passed 1 (badOpening o) Clear (passed 2 (isOpen (statusOf p)) _ e .1) .0)
 
-day-sound : (p : Period) (c : DayCall) (room : ℕ) → dayRow p c room ≡ Clear → Sound (sizedPeriod p c)
-day-sound p c room e = λ q. let (t, h) = passes p c room e in sized-in-range p c t h
+day-sound : (p : Period) (d : DayInput) (room : ℕ) → dayRow p d room ≡ Clear → Sound (sizedPeriod p d)
+day-sound p d room e = λ q. let (t, h) = passes p d room e in sized-in-range p d t h
 
 not-open : (p : Period) → isOpen (p .status) ≡ false → Sound p
 not-open p e q = absurd (true≢false (sym q ∙ e))
@@ -158,7 +139,7 @@ not-open p e q = absurd (true≢false (sym q ∙ e))
 sound : {p : Period} → Reached p → Sound p
 sound fresh = not-open freshPeriod refl
 sound (by-opening {p} {o} w m) = subst Sound (sym (m .period)) (sound-by _ p (openedPeriod o) (sound w) (opening-sound p o))
-sound (by-day {p} {c} {before} w m) = subst Sound (sym (m .period)) (sound-by _ p (sizedPeriod p c) (sound w) (day-sound p c (length before)))
+sound (by-day {p} {d} {before} w m) = subst Sound (sym (m .period)) (sound-by _ p (sizedPeriod p d) (sound w) (day-sound p d (length before)))
 sound (by-closing {p} {before} w m) = subst Sound (sym (m .period)) (sound-by (closingRow p (length before)) p (closedPeriod p) (sound w) (λ e. not-open (closedPeriod p) refl))
 
 -- the theorem: on such a period the status that counts is open just when its status is

@@ -1,14 +1,14 @@
 -- The period that calls have left is the register's, and each call says and writes what the register does.
 -- Every field is a function of what the register holds, `periodOf`; so each call is one equation for the period after it.
 use mathlib.Core.Path.{_≡_, refl, sym, ap, subst, _∙_}
-use mathlib.Core.Bool.{Bool, true, false, not, cond}
+use mathlib.Core.Bool.{Bool, true, false, cond}
 use mathlib.Core.List.{List, [], _∷_, map, flatMap, map-map}
 use Prim.Native.Nat.{ℕ, suc, _+_, _≤_, _<_, max}
 use native.Mathlib.Nat.{add-comm, zero-add}
 use native.Mathlib.Numerals.{add-one}
 use native.Mathlib.Omega.{arith}
 use lib.Dec.{ltb}
-use lib.ListN.{length, getD, take, replicate}
+use lib.ListN.{length, getD, replicate}
 use borrow.Author.Tests.{lt-ltb}
 use Rattle.numbers.specs.Lists.{range}
 use Rattle.numbers.specs.Sums.{Σ, greatest}
@@ -19,18 +19,18 @@ use Rattle.methodology.specs.declared.Status.the-variants.{Open}
 use Rattle.methodology.specs.Account.{Opening, DayInput, Account, members, accounts}
 use Rattle.methodology.specs.Member.{loss}
 use Rattle.methodology.specs.Day.{total, maxEul, share, dailies}
-use Rattle.methodology.specs.Contribution.{KeptDay, highest, sumOfShares, charge, funded, three, contributions, totalFunded}
-use Rattle.methodology.specs.Refusals.{row_when_else_, isOpen, openingRefusal, dayRefusal, closingRefusal}
+use Rattle.methodology.specs.Contribution.{KeptDay, highest, sumOfShares, funded, three}
+use Rattle.methodology.specs.Refusals.{isOpen, openingRefusal, dayRefusal, closingRefusal}
 use Rattle.methodology.specs.Register.{Call, Register, start, lastNumber, refusal, accept, ifAccepted, step, returned, written, Answer, accepted, answerBy, answer, buffer}
 use Rattle.fund.specs.Counted.{Counted}
 use Rattle.fund.proofs.Contributions.{are-contributions, is-total-funded}
 use Rattle.period.specs.declared.Period.{Period}
 use Rattle.period.specs.declared.Reply.{Reply}
-use Rattle.period.specs.Reading.{answerOf, DayCall, dayOf, dayBrought, headingsApart}
+use Rattle.period.specs.Reading.{answerOf}
 use Rattle.period.specs.Registered.{sumAt, periodOf}
-use Rattle.period.specs.Calls.{freshPeriod, held, statusOf, openingRow, openedPeriod, OpeningMeets, accountsBrought, dayRow, shareAt, sizedPeriod, DayMeets, closingRow, sumsHeld, chargeBy, closedPeriod, ClosingMeets}
+use Rattle.period.specs.Calls.{freshPeriod, held, statusOf, openingRow, openedPeriod, OpeningMeets, accountsBrought, dayRow, sizedPeriod, DayMeets, closingRow, sumsHeld, chargeBy, closedPeriod, ClosingMeets}
 use Rattle.period.proofs.Replies.{opening-passed}
-use Rattle.period.proofs.Reach.{held-opened, together, passes, Reached, fresh, by-opening, by-day, by-closing, status-counts}
+use Rattle.period.proofs.Reach.{held-opened, passes, Reached, fresh, by-opening, by-day, by-closing, status-counts}
 
 -- what every register that calls lead to holds
 pub record Good (g : Register) : Type 0 where
@@ -141,25 +141,20 @@ opening-follows {g} {p} {o} f m =
 
 -- ---- day
 
-day-row : {g : Register} {p : Period} → Follows g p → (c : DayCall) (room : ℕ) → dayRow p c room ≡ refusal g (Call.day (dayBrought c) room)
+day-row : {g : Register} {p : Period} → Follows g p → (d : DayInput) (room : ℕ) → dayRow p d room ≡ refusal g (Call.day d room)
 unfolding dayRow refusal dayRefusal periodOf
-day-row {g} {p} f c room =
+day-row {g} {p} f d room =
     let o : held p ≡ g .held = ap held (f .is) ∙ held-is g (f .good) in
     let l : p .last ≡ lastNumber (g .days) = ap (λ (p : Period). p .last) (f .is) in
     rw (open-alike f, o, l)
 
--- an accepted one is the day in its slices
-brought-is : (p : Period) (c : DayCall) (room : ℕ) → dayRow p c room ≡ Clear → dayBrought c ≡ dayOf c
-unfolding dayBrought
-brought-is p c room e = rw (together p c room e .0)
-
--- and is kept
-module _ (g : Register) (q : Good g) (c : DayCall) (same : dayBrought c ≡ dayOf c) where
+-- the day that is kept
+module _ (g : Register) (q : Good g) (d : DayInput) where
   abbrev accts : List Account
-  accts = accounts (g .held .k) (dayOf c)
+  accts = accounts (g .held .k) d
 
   abbrev kept : KeptDay
-  kept = record { number = c .number; accounts = accts }
+  kept = record { number = d .number; accounts = accts }
 
   -- the sums after it
   added : (b : Bool) (x y : ℕ) → cond b x 0 + cond b y 0 ≡ cond b (y + x) 0
@@ -180,7 +175,7 @@ module _ (g : Register) (q : Good g) (c : DayCall) (same : dayBrought c ≡ dayO
         n = g .held .n;
         k = g .held .k;
         groups = map (λ i. getD (g .held .groups) i 0) (range 0 32);
-        last = c .number;
+        last = d .number;
         days = length (g .days) + 1;
         highest = max (highest (g .held) (g .days)) (maxEul o accts);
         sums = map (λ i. getD (map (sumAt (g .held) (g .days)) (range 0 32)) i 0 + cond (ltb i (g .held .n)) (share (loss (g .held .k) accts (i + 1)) (total o accts)) 0) (range 0 32);
@@ -189,7 +184,7 @@ module _ (g : Register) (q : Good g) (c : DayCall) (same : dayBrought c ≡ dayO
   max-other : (a b : ℕ) → max a b ≡ max b a
   max-other a b = omega arith
 
-  sized-is : (room : ℕ) → sizedPeriod (periodOf g) c ≡ periodOf (accept g (Call.day (dayBrought c) room))
+  sized-is : (room : ℕ) → sizedPeriod (periodOf g) d ≡ periodOf (accept g (Call.day d room))
   unfolding periodOf accept highest greatest
   sized-is room =
       ap sizedBy (held-is g q)
@@ -198,44 +193,43 @@ module _ (g : Register) (q : Good g) (c : DayCall) (same : dayBrought c ≡ dayO
         n = g .held .n;
         k = g .held .k;
         groups = map (λ j. getD (g .held .groups) j 0) (range 0 32);
-        last = c .number;
+        last = d .number;
         days = add-one (length (g .days)) i;
         highest = max-other (highest (g .held) (g .days)) (maxEul (g .held) accts) i;
         sums = more-sums i;
       })
-      ∙ ap (λ (d : DayInput). periodOf (accept g (Call.day d room))) (sym same)
 
-  sized-good : (room : ℕ) → 0 < total (held (periodOf g)) (accountsBrought (periodOf g) c) → Good (accept g (Call.day (dayBrought c) room))
+  sized-good : (room : ℕ) → 0 < total (held (periodOf g)) (accountsBrought (periodOf g) d) → Good (accept g (Call.day d room))
   unfolding accept periodOf
   sized-good room t =
       record {
         groups-long = q .groups-long;
         members-few = q .members-few;
-        counted = (rw same (rw (held-is g q) at t), q .counted);
+        counted = (rw (held-is g q) at t, q .counted);
       }
 
-  day-says : (room : ℕ) → total (held (periodOf g)) (accountsBrought (periodOf g) c) ∷ maxEul (held (periodOf g)) (accountsBrought (periodOf g) c) ∷ [] ≡ returned (accept g (Call.day (dayBrought c) room)) (Call.day (dayBrought c) room)
+  day-says : (room : ℕ) → total (held (periodOf g)) (accountsBrought (periodOf g) d) ∷ maxEul (held (periodOf g)) (accountsBrought (periodOf g) d) ∷ [] ≡ returned (accept g (Call.day d room)) (Call.day d room)
   unfolding periodOf accept returned
-  day-says room = rw (held-is g q, same)
+  day-says room = rw (held-is g q)
 
-  day-writes : (room : ℕ) → dailies (held (periodOf g)) (accountsBrought (periodOf g) c) ≡ written (accept g (Call.day (dayBrought c) room)) (Call.day (dayBrought c) room)
+  day-writes : (room : ℕ) → dailies (held (periodOf g)) (accountsBrought (periodOf g) d) ≡ written (accept g (Call.day d room)) (Call.day d room)
   unfolding periodOf accept written
-  day-writes room = rw (held-is g q, same)
+  day-writes room = rw (held-is g q)
 
-pub day-follows : {g : Register} {p : Period} {c : DayCall} {before : List ℕ} {r : Reply} {after : List ℕ} → Follows g p → DayMeets p c before r after
-    → Follows (step g (Call.day (dayBrought c) (length before))) (r .period)
-    × (answerOf (r .outcome) ≡ answer g (Call.day (dayBrought c) (length before))) × (after ≡ buffer g (Call.day (dayBrought c) (length before)) before)
-day-follows {g} {p} {c} {before} f m =
+pub day-follows : {g : Register} {p : Period} {d : DayInput} {before : List ℕ} {r : Reply} {after : List ℕ} → Follows g p → DayMeets p d before r after
+    → Follows (step g (Call.day d (length before))) (r .period)
+    × (answerOf (r .outcome) ≡ answer g (Call.day d (length before))) × (after ≡ buffer g (Call.day d (length before)) before)
+day-follows {g} {p} {d} {before} f m =
     let room = length before in
-    let d = Call.day (dayBrought c) room in
-    let same = day-row f c room in
-    let positive : dayRow p c room ≡ Clear → 0 < total (held (periodOf g)) (accountsBrought (periodOf g) c) = λ e. subst (λ (p : Period). 0 < total (held p) (accountsBrought p c)) (f .is) (passes p c room e .1) in (
-      leads g d (dayRow p c room) same f (m .period) (by-day (f .reached) m)
-          (λ e. (ap (λ (p : Period). sizedPeriod p c) (f .is) ∙ sized-is g (f .good) c (brought-is p c room e) room, sized-good g (f .good) c (brought-is p c room e) room (positive e))),
-      tells g d (dayRow p c room) same _ (m .answer)
-          (λ e. ap (λ (p : Period). total (held p) (accountsBrought p c) ∷ maxEul (held p) (accountsBrought p c) ∷ []) (f .is) ∙ day-says g (f .good) c (brought-is p c room e) room),
-      fills g d (dayRow p c room) same _ before (m .buffer)
-          (λ e. ap (λ (p : Period). dailies (held p) (accountsBrought p c)) (f .is) ∙ day-writes g (f .good) c (brought-is p c room e) room),
+    let c = Call.day d room in
+    let same = day-row f d room in
+    let positive : dayRow p d room ≡ Clear → 0 < total (held (periodOf g)) (accountsBrought (periodOf g) d) = λ e. subst (λ (p : Period). 0 < total (held p) (accountsBrought p d)) (f .is) (passes p d room e .1) in (
+      leads g c (dayRow p d room) same f (m .period) (by-day (f .reached) m)
+          (λ e. (ap (λ (p : Period). sizedPeriod p d) (f .is) ∙ sized-is g (f .good) d room, sized-good g (f .good) d room (positive e))),
+      tells g c (dayRow p d room) same _ (m .answer)
+          (λ e. ap (λ (p : Period). total (held p) (accountsBrought p d) ∷ maxEul (held p) (accountsBrought p d) ∷ []) (f .is) ∙ day-says g (f .good) d room),
+      fills g c (dayRow p d room) same _ before (m .buffer)
+          (λ e. ap (λ (p : Period). dailies (held p) (accountsBrought p d)) (f .is) ∙ day-writes g (f .good) d room),
     )
 
 -- ---- closing

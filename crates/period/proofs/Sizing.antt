@@ -10,34 +10,40 @@ use lib.ListN.{length, getD, take}
 use lib.Seq.{getD-take}
 use borrow.Author.Tests.{ltb-true}
 use Rattle.numbers.specs.Lists.{range}
-use Rattle.numbers.proofs.Lists.{map-eq}
+use Rattle.numbers.proofs.Lists.{_∈_, by-index, first-before, table-length, map-eq}
 use Rattle.methodology.specs.declared.Refusal.the-variants.{Clear, Row, RowAt}
-use Rattle.methodology.specs.Account.{Account}
+use Rattle.methodology.specs.Account.{DayInput, Account, accounts}
 use Rattle.methodology.specs.Member.{loss}
 use Rattle.methodology.specs.Day.{total, maxEul, scale, share, five, dailies}
+use Rattle.methodology.specs.Refusals.{badAmount}
 use Rattle.quotient.specs.Ranges.{Loss, greatestTotal}
-use Rattle.validation.specs.Slices.{Lent}
+use Rattle.validation.specs.Slices.{Lent, none}
 use Rattle.validation.proofs.Opening.{opening-leaves}
 use Rattle.validation.proofs.Day.{sized, accounts-members}
 use Rattle.exposure.specs.declared.day.Losses.{Losses}
 use Rattle.exposure.specs.Cut.{Owners}
 use Rattle.exposure.specs.Day.{Sizable, LossesAre}
+use Rattle.exposure.proofs.Bounds.{total-small}
 use Rattle.exposure.proofs.Members.{owners}
 use Rattle.exposure.proofs.Admitted.{admitted, groups-few}
 use Rattle.exposure.proofs.Found as figures
 use Rattle.fund.proofs.Dailies.{are-dailies}
 use Rattle.period.specs.declared.Period.{Period}
 use Rattle.period.specs.declared.Outcome.the-variants as says
-use Rattle.period.specs.Reading.{brought, DayCall, dayOf}
+use Rattle.period.specs.Reading.{brought}
+use Rattle.period.specs.Plain.{PlainDay, dayOf, Even}
 use Rattle.period.specs.Calls.{held, accountsBrought, dayRow, shareAt, DayMeets}
 use Rattle.period.specs.Rows.{Passes}
 use Rattle.period.proofs.Ranges.{Ranged, ranged}
 use Rattle.period.proofs.DayRows.{lent}
 
-module _ {p : Period} {c : DayCall} {room : ℕ} (s : Passes p c room) where
-  abbrev accts : List Account
-  accts = accountsBrought p c
+-- a day has as many accounts as headings
+pub accounts-long : (k : ℕ) (d : DayInput) → length (accounts k d) ≡ length (d .headings)
+unfolding accounts
+accounts-long k d = table-length _ 0 (length (d .headings))
 
+-- what any such day has
+module _ {p : Period} {d : DayInput} {room : ℕ} (s : Passes p d room) where
   pub in-range : Ranged p
   in-range = ranged p (s .in-range)
 
@@ -45,17 +51,7 @@ module _ {p : Period} {c : DayCall} {room : ℕ} (s : Passes p c room) where
   members-few = opening-leaves (held p) (in-range .opened) .members-few
 
   pub room-long : room ≡ 5 * p .n
-  room-long = sized (held p) (dayOf c) room (s .lengths) .room-long
-
-  slices : Lent (p .k) (c .kinds) (c .npvs) (c .margins) (c .extras) accts
-  slices = lent p c room (s .kinds-long) (s .lengths)
-
-  own : Owners (c .members) accts
-  own = rw (accounts-members (p .k) (c .number) (c .members) (c .numbers) (c .kinds) (c .npvs) (c .margins) (c .extras)) at (owners accts)
-
-  pub sizable : Sizable (p .n) (p .k) (c .members) (c .kinds) (c .npvs) (c .margins) (c .extras)
-  sizable =
-      admitted (held p) (in-range .opened) room (c .number) (c .members) (c .numbers) (c .kinds) (c .npvs) (c .margins) (c .extras) (s .kinds-long) (s .lengths) (s .headings) (s .amounts)
+  room-long = sized (held p) d room (s .lengths) .room-long
 
   pub groups-fit : (i : ℕ) → i < p .n → getD (p .groups) i 0 ≤ 32
   groups-fit i h =
@@ -65,8 +61,28 @@ module _ {p : Period} {c : DayCall} {room : ℕ} (s : Passes p c room) where
   pub sums-fit : (i : ℕ) → getD (p .sums) i 0 ≤ 31 * scale
   sums-fit i = let r = in-range in omega (arith, r .sums i, r .counted, r .month)
 
-  pub total-few : total (held p) accts ≤ greatestTotal
-  total-few = omega (arith, figures.total-few (held p) accts slices sizable)
+  good-amount : (a : Account) → a ∈ accountsBrought p d → badAmount a ≡ false
+  good-amount =
+      by-index (λ a. badAmount a ≡ false) (accountsBrought p d) none (λ i h. first-before badAmount (accountsBrought p d) i none (omega (arith, s .amounts, accounts-long (p .k) d)))
+
+  pub total-few : total (held p) (accountsBrought p d) ≤ greatestTotal
+  total-few =
+      omega (arith, total-small (accountsBrought p d) good-amount (omega (arith, accounts-long (p .k) d, sized (held p) d room (s .lengths) .few)) (held p))
+
+-- what the figures ask of one in slices
+module _ {p : Period} {c : PlainDay} {room : ℕ} (even : Even (c .members) (c .numbers) (c .kinds)) (s : Passes p (dayOf c) room) where
+  abbrev accts : List Account
+  accts = accountsBrought p (dayOf c)
+
+  slices : Lent (p .k) (c .kinds) (c .npvs) (c .margins) (c .extras) accts
+  slices = lent p c room (even .kinds-long) (s .lengths)
+
+  own : Owners (c .members) accts
+  own = rw (accounts-members (p .k) (c .number) (c .members) (c .numbers) (c .kinds) (c .npvs) (c .margins) (c .extras)) at (owners accts)
+
+  pub sizable : Sizable (p .n) (p .k) (c .members) (c .kinds) (c .npvs) (c .margins) (c .extras)
+  sizable =
+      admitted (held p) (in-range s .opened) room (c .number) (c .members) (c .numbers) (c .kinds) (c .npvs) (c .margins) (c .extras) (even .kinds-long) (s .lengths) (s .headings) (s .amounts)
 
   -- what the program found
   module _ (r : Losses) (found : LossesAre (p .n) (p .k) (c .members) (c .kinds) (c .npvs) (c .margins) (c .extras) r) where
@@ -78,12 +94,12 @@ module _ {p : Period} {c : DayCall} {room : ℕ} (s : Passes p c room) where
         record {
           positive = omega arith;
           part = figures.loss-part (held p) accts slices sizable own r found i l;
-          bounded = omega (arith, total-is, total-few);
+          bounded = omega (arith, total-is, total-few s);
         }
 
     pub shares :
         map (λ i. getD (p .sums) i 0 + cond (ltb i (p .n)) (share (getD (r .each) i 0) (r .total)) 0) (range 0 32)
-        ≡ map (λ i. getD (p .sums) i 0 + shareAt p c i) (range 0 32)
+        ≡ map (λ i. getD (p .sums) i 0 + shareAt p (dayOf c) i) (range 0 32)
     shares = map-eq _ _ (range 0 32) (λ i m. ap (λ (x : ℕ). getD (p .sums) i 0 + x) (by i (ltb i (p .n)) refl))
       where
         by : (i : ℕ) (t : Bool) → ltb i (p .n) ≡ t → cond t (share (getD (r .each) i 0) (r .total)) 0 ≡ cond t (share (loss (p .k) accts (i + 1)) (total (held p) accts)) 0
@@ -103,16 +119,16 @@ module _ {p : Period} {c : DayCall} {room : ℕ} (s : Passes p c room) where
       written = rw (top-is, total-is) (are-dailies (held p) accts (r .each) (found .each accts slices own))
 
 -- what the call says and leaves, by what the refusal table says
-module _ (p : Period) (c : DayCall) (out : List ℕ) where
-  pub day-refused : (number : ℕ) → dayRow p c (length out) ≡ Row number → DayMeets p c out (record { period = p; outcome = says.Refused number }) out
+module _ (p : Period) (d : DayInput) (out : List ℕ) where
+  pub day-refused : (number : ℕ) → dayRow p d (length out) ≡ Row number → DayMeets p d out (record { period = p; outcome = says.Refused number }) out
   day-refused number e = record { answer = rw e; period = rw e; buffer = rw e }
 
-  pub day-refused-at : (number index : ℕ) → dayRow p c (length out) ≡ RowAt number index → DayMeets p c out (record { period = p; outcome = says.RefusedAt number index }) out
+  pub day-refused-at : (number index : ℕ) → dayRow p d (length out) ≡ RowAt number index → DayMeets p d out (record { period = p; outcome = says.RefusedAt number index }) out
   day-refused-at number index e = record { answer = rw e; period = rw e; buffer = rw e }
 
-  pub day-accepted : dayRow p c (length out) ≡ Clear
+  pub day-accepted : dayRow p d (length out) ≡ Clear
       → (t top highest : ℕ) (sums after : List ℕ)
-      → t ≡ total (held p) (accountsBrought p c) → top ≡ maxEul (held p) (accountsBrought p c) → highest ≡ max (p .highest) top
-      → sums ≡ map (λ i. getD (p .sums) i 0 + shareAt p c i) (range 0 32) → after ≡ dailies (held p) (accountsBrought p c)
-      → DayMeets p c out (record { period = record { status = p .status; n = p .n; k = p .k; groups = p .groups; last = c .number; days = p .days + 1; highest = highest; sums = sums }; outcome = says.Sized t top }) after
+      → t ≡ total (held p) (accountsBrought p d) → top ≡ maxEul (held p) (accountsBrought p d) → highest ≡ max (p .highest) top
+      → sums ≡ map (λ i. getD (p .sums) i 0 + shareAt p d i) (range 0 32) → after ≡ dailies (held p) (accountsBrought p d)
+      → DayMeets p d out (record { period = record { status = p .status; n = p .n; k = p .k; groups = p .groups; last = d .number; days = p .days + 1; highest = highest; sums = sums }; outcome = says.Sized t top }) after
   day-accepted e t top highest sums after a b h q w = record { answer = rw (e, a, b); period = rw (e, q, h, b); buffer = rw (e, w) }

@@ -11,8 +11,7 @@ use Rattle.numbers.specs.Sums.{Σ}
 use Rattle.methodology.specs.declared.Status.{Status}
 use Rattle.methodology.specs.declared.Status.the-variants.{Fresh, Open, Closed}
 use Rattle.methodology.specs.declared.Refusal.{Refusal}
-use Rattle.methodology.specs.declared.Refusal.the-variants.{Clear, Row, RowAt}
-use Rattle.methodology.specs.Account.{Opening, Account, accounts}
+use Rattle.methodology.specs.Account.{Opening, DayInput, Account, accounts}
 use Rattle.methodology.specs.Member.{loss}
 use Rattle.methodology.specs.Day.{total, maxEul, scale, share, dailies}
 use Rattle.methodology.specs.Contribution.{charge, funded, three}
@@ -21,7 +20,7 @@ use Rattle.methodology.specs.Register.{ifAccepted, answerBy}
 use Rattle.quotient.specs.Ranges.{greatestTotal}
 use Rattle.period.specs.declared.Period.{Period}
 use Rattle.period.specs.declared.Reply.{Reply}
-use Rattle.period.specs.Reading.{DayCall, dayOf, dayBrought, answerOf}
+use Rattle.period.specs.Reading.{answerOf}
 
 abbrev pub freshPeriod : Period
 freshPeriod =
@@ -72,40 +71,40 @@ pub record OpeningMeets (p : Period) (o : Opening) (r : Reply) : Type 0 where
 
 -- ---- day
 
--- its accounts, where it is accepted
-abbrev pub accountsBrought : Period → DayCall → List Account
-accountsBrought p c = accounts (p .k) (dayOf c)
+-- the accounts of a day that a call brings
+abbrev pub accountsBrought : Period → DayInput → List Account
+accountsBrought p d = accounts (p .k) d
 
-unfoldable pub dayRow : Period → DayCall → (room : ℕ) → Refusal
-dayRow p c room = dayRefusal (statusOf p) (held p) (p .last) (dayBrought c) room
+unfoldable pub dayRow : Period → DayInput → (room : ℕ) → Refusal
+dayRow p d room = dayRefusal (statusOf p) (held p) (p .last) d room
 
 -- what an accepted day adds to the sum in place i: member i + 1's share
-abbrev pub shareAt : Period → DayCall → (i : ℕ) → ℕ
-shareAt p c i =
-    let accts = accountsBrought p c in
+abbrev pub shareAt : Period → DayInput → (i : ℕ) → ℕ
+shareAt p d i =
+    let accts = accountsBrought p d in
     cond (ltb i (p .n)) (share (loss (p .k) accts (i + 1)) (total (held p) accts)) 0
 
 -- the period after it: M, D, the last accepted day number and the sums take the day in
-abbrev pub sizedPeriod : Period → DayCall → Period
-sizedPeriod p c =
+abbrev pub sizedPeriod : Period → DayInput → Period
+sizedPeriod p d =
     record {
       status = p .status;
       n = p .n;
       k = p .k;
       groups = p .groups;
-      last = c .number;
+      last = d .number;
       days = p .days + 1;
-      highest = max (p .highest) (maxEul (held p) (accountsBrought p c));
-      sums = map (λ i. getD (p .sums) i 0 + shareAt p c i) (range 0 32);
+      highest = max (p .highest) (maxEul (held p) (accountsBrought p d));
+      sums = map (λ i. getD (p .sums) i 0 + shareAt p d i) (range 0 32);
     }
 
 -- A day "returns T and Max EUL" and writes "5 numbers a member". A refused one leaves the period and the buffer as before.
-pub record DayMeets (p : Period) (c : DayCall) (before : List ℕ) (r : Reply) (after : List ℕ) : Type 0 where
+pub record DayMeets (p : Period) (d : DayInput) (before : List ℕ) (r : Reply) (after : List ℕ) : Type 0 where
   pub answer :
       answerOf (r .outcome)
-      ≡ answerBy (dayRow p c (length before)) (total (held p) (accountsBrought p c) ∷ maxEul (held p) (accountsBrought p c) ∷ [])
-  pub period : r .period ≡ ifAccepted (dayRow p c (length before)) (sizedPeriod p c) p
-  pub buffer : after ≡ ifAccepted (dayRow p c (length before)) (dailies (held p) (accountsBrought p c)) before
+      ≡ answerBy (dayRow p d (length before)) (total (held p) (accountsBrought p d) ∷ maxEul (held p) (accountsBrought p d) ∷ [])
+  pub period : r .period ≡ ifAccepted (dayRow p d (length before)) (sizedPeriod p d) p
+  pub buffer : after ≡ ifAccepted (dayRow p d (length before)) (dailies (held p) (accountsBrought p d)) before
 
 -- ---- closing
 

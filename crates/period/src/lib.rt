@@ -8,13 +8,21 @@ use crate::limits::padded;
 use crate::limits::sums_above;
 use crate::sizes::bad_day_number;
 use crate::sizes::bad_lengths;
+use crate::sizes::counted;
 use crate::sizes::max_eul;
 use crate::sizes::with_shares;
+use methodology::Heading;
 use methodology::Refusal;
 use methodology::Status;
 ghost use mathlib.Core.Path.{_≡_};
+ghost use mathlib.Core.List.{List};
+ghost use lib.ListN.{length, take};
+ghost use Rattle.headings.specs.Columns.{columns as columnsOf};
+ghost use Rattle.validation.specs.Slices.{plainDay};
 ghost use Rattle.methodology.specs.Refusals.{isOpen};
-ghost use Rattle.period.specs.Reading.{brought, dayCall};
+ghost use Rattle.period.specs.Reading.{brought, dayBrought};
+ghost use Prim.Native.Nat.{_≤_};
+ghost use Rattle.period.specs.Plain.{Even, cutDay};
 ghost use Rattle.period.specs.Calls.{freshPeriod, inRange, statusOf, openingRow, OpeningMeets, DayMeets, closingRow, ClosingMeets};
 ghost use Rattle.period.specs.Rows.{BeforeTotal};
 
@@ -168,7 +176,8 @@ impl Period {
         extras: &[u64],
         room: usize,
     ) -> Refusal
-        ensures { λ r. ⌜ BeforeTotal self (dayCall number (now (members .entry)) (now (numbers .entry)) (now (kinds .entry)) (now (npvs .entry)) (now (margins .entry)) (now (extras .entry))) room r ⌝ }
+        requires { ⌜ Even (now members) (now numbers) (now kinds) ⌝ }
+        ensures { λ r. ⌜ BeforeTotal self (plainDay number (now (members .entry)) (now (numbers .entry)) (now (kinds .entry)) (now (npvs .entry)) (now (margins .entry)) (now (extras .entry))) room r ⌝ }
     {
         let n = self.n;
         let k = self.k;
@@ -177,12 +186,6 @@ impl Period {
         let status = self.status_of();
         if !is_open(status) {
             return Refusal::Row(2);
-        }
-        if numbers.len() != count {
-            return Refusal::Row(4);
-        }
-        if kinds.len() != count {
-            return Refusal::Row(4);
         }
         let bad4 = bad_lengths(n, k, count, npvs.len(), margins.len(), extras.len(), room);
         let bad3 = bad_day_number(last, number);
@@ -206,9 +209,8 @@ impl Period {
         Refusal::Clear
     }
 
-    // "A day writes 5 numbers a member (e, share, value, reserve, estimate), each member's five into its own stretch of the lent buffer, and
-    // returns T and Max EUL."
-    pub fn day(
+    // A day whose headings come in three slices of one length: members, account numbers, kinds.
+    fn plain_day(
         mut self,
         number: u64,
         members: &[u64],
@@ -219,7 +221,8 @@ impl Period {
         extras: &[u64],
         out: &mut [u64],
     ) -> Reply
-        ensures { λ r. ⌜ DayMeets self (dayCall number (now (members .entry)) (now (numbers .entry)) (now (kinds .entry)) (now (npvs .entry)) (now (margins .entry)) (now (extras .entry))) (now (out .entry)) r (now (out .exit)) ⌝ }
+        requires { ⌜ Even (now members) (now numbers) (now kinds) ⌝ }
+        ensures { λ r. ⌜ DayMeets self (plainDay number (now (members .entry)) (now (numbers .entry)) (now (kinds .entry)) (now (npvs .entry)) (now (margins .entry)) (now (extras .entry))) (now (out .entry)) r (now (out .exit)) ⌝ }
     {
         let row = self.day_row(
             number,
@@ -280,6 +283,100 @@ impl Period {
                 outcome: Outcome::RefusedAt(number, index),
             },
         }
+    }
+
+    // A day of n headings whose fields stand in three columns of 256 places.
+    fn cut_day(
+        mut self,
+        number: u64,
+        n: usize,
+        columns: &[u64],
+        npvs: &[i64],
+        margins: &[u64],
+        extras: &[u64],
+        out: &mut [u64],
+    ) -> Reply
+        requires { ⌜ (n ≤ 256) × (length (now columns) ≡ 768) ⌝ }
+        ensures { λ r. ⌜ DayMeets self (cutDay number n (now (columns .entry)) (now (npvs .entry)) (now (margins .entry)) (now (extras .entry))) (now (out .entry)) r (now (out .exit)) ⌝ }
+    {
+        self.plain_day(
+            number,
+            &columns[..n],
+            &columns[256..256 + n],
+            &columns[512..512 + n],
+            npvs,
+            margins,
+            extras,
+            out,
+        )
+    }
+
+    // A day of `count` headings in such columns. More than 256 are taken for none: row 4 refuses both.
+    fn column_day(
+        mut self,
+        number: u64,
+        count: usize,
+        columns: [u64; 768],
+        npvs: &[i64],
+        margins: &[u64],
+        extras: &[u64],
+        out: &mut [u64],
+    ) -> Reply
+        ensures { λ r. ⌜ ((hs : List Heading) → length hs ≡ count → columns ≡ columnsOf hs → DayMeets self (dayBrought number hs (now (npvs .entry)) (now (margins .entry)) (now (extras .entry))) (now (out .entry)) r (now (out .exit))) ⌝ }
+    {
+        let n = counted(count);
+        self.cut_day(number, n, &columns, npvs, margins, extras, out)
+    }
+
+    // "A day writes 5 numbers a member (e, share, value, reserve, estimate), each member's five into its own stretch of the lent buffer, and
+    // returns T and Max EUL." The form that document 01 names: the headings "come as a lent slice of records".
+    pub fn day(
+        mut self,
+        number: u64,
+        headings: &[Heading],
+        npvs: &[i64],
+        margins: &[u64],
+        extras: &[u64],
+        out: &mut [u64],
+    ) -> Reply
+        ensures { λ r. ⌜ DayMeets self (dayBrought number (now (headings .entry)) (now (npvs .entry)) (now (margins .entry)) (now (extras .entry))) (now (out .entry)) r (now (out .exit)) ⌝ }
+    {
+        let columns = headings::unpack(headings);
+        self.column_day(number, headings.len(), columns, npvs, margins, extras, out)
+    }
+
+    // The first n of an array of headings, lent to `day`.
+    fn lend_day(
+        mut self,
+        number: u64,
+        headings: [Heading; 256],
+        n: usize,
+        npvs: &[i64],
+        margins: &[u64],
+        extras: &[u64],
+        out: &mut [u64],
+    ) -> Reply
+        requires { ⌜ n ≤ 256 ⌝ }
+        ensures { λ r. ⌜ DayMeets self (dayBrought number (take n headings) (now (npvs .entry)) (now (margins .entry)) (now (extras .entry))) (now (out .entry)) r (now (out .exit)) ⌝ }
+    {
+        self.day(number, &headings[..n], npvs, margins, extras, out)
+    }
+
+    // `day` for a caller that holds its headings in an array: the first `count` of them.
+    pub fn day_of(
+        mut self,
+        number: u64,
+        headings: [Heading; 256],
+        count: usize,
+        npvs: &[i64],
+        margins: &[u64],
+        extras: &[u64],
+        out: &mut [u64],
+    ) -> Reply
+        ensures { λ r. ⌜ DayMeets self (dayBrought number (take count headings) (now (npvs .entry)) (now (margins .entry)) (now (extras .entry))) (now (out .entry)) r (now (out .exit)) ⌝ }
+    {
+        let n = headings::within(count);
+        self.lend_day(number, headings, n, npvs, margins, extras, out)
     }
 
     // The refusal table's rows of a closing, in their order: 2, 8, 4.

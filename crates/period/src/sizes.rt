@@ -60,6 +60,13 @@ pub fn bad_lengths(
     room as u64 != 5 * n
 }
 
+// The number of headings, or 0 where row 4 refuses so many.
+pub fn counted(count: usize) -> usize
+    ensures { λ r. ⌜ r ≡ cond (ltb 256 count) 0 count ⌝ }
+{
+    if count > 256 { 0 } else { count }
+}
+
 // Max EUL of a day, for the n group numbers that stand in the first places of an array.
 pub fn max_eul(
     groups: [u64; 32],

@@ -1,8 +1,6 @@
 -- `full_size` is safe and ends: every index stays within its array.
 use borrow.Author.Needs.{needs}
-use mathlib.Core.Path.{_≡_}
 use Prim.Native.Nat.{_-_, _≤_}
-use lib.ListN.{length}
 use Rattle.calls.proofs.full_size.Statement.{statement}
 use Rattle.calls.proofs.full_size.Tie as tie
 

@@ -20,17 +20,11 @@ array-share-prefix-all-members c = search needs
 slice-aggregate-day : tie.Need-slice-aggregate-day
 slice-aggregate-day c = sym (length-take-le _ _ (search needs))
 
-array-share-prefix-all-numbers : tie.Need-array-share-prefix-all-numbers
-array-share-prefix-all-numbers c = search needs
-
 slice-aggregate-day-2 : tie.Need-slice-aggregate-day-2
-slice-aggregate-day-2 c = sym (length-take-le _ _ (search needs))
-
-array-share-prefix-all-kinds : tie.Need-array-share-prefix-all-kinds
-array-share-prefix-all-kinds c = search needs
+slice-aggregate-day-2 c = search needs
 
 slice-aggregate-day-3 : tie.Need-slice-aggregate-day-3
-slice-aggregate-day-3 c = sym (length-take-le _ _ (search needs))
+slice-aggregate-day-3 c = search needs
 
 array-share-prefix-all-npvs : tie.Need-array-share-prefix-all-npvs
 array-share-prefix-all-npvs c = search needs
@@ -71,9 +65,7 @@ with-lengths-spec =
     array-set-of-all-npvs
     array-share-prefix-all-members
     slice-aggregate-day
-    array-share-prefix-all-numbers
     slice-aggregate-day-2
-    array-share-prefix-all-kinds
     slice-aggregate-day-3
     array-share-prefix-all-npvs
     slice-aggregate-day-4

@@ -2,12 +2,11 @@
 use borrow.Author.Needs.{needs}
 use mathlib.Core.Path.{_≡_, sym, ap, _∙_}
 use mathlib.Core.Bool.{Bool, true, false}
-use Prim.Native.Nat.{_≤_}
 use native.Mathlib.Omega.{arith}
 use borrow.Author.Tests.{eq-eqb, ne-eqb, not-true, not-false}
 use Rattle.methodology.specs.Refusals.{row_when_else_, isOpen, closingRefusal}
 use Rattle.validation.proofs.Opening.{opening-leaves}
-use Rattle.period.specs.Calls.{held, statusOf, closingRow}
+use Rattle.period.specs.Calls.{statusOf, closingRow}
 use Rattle.period.proofs.Ranges.{ranged, open-in-range}
 use Rattle.period.proofs.Period.closing_row.Statement.{statement}
 use Rattle.period.proofs.Period.closing_row.Tie as tie
