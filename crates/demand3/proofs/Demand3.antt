@@ -15,7 +15,7 @@ use contract.Lifetimes.{Lfts}
 use denote.Triple.Entry.{Args, Res}
 use denote.Triple.Clauses.{AtExit}
 use denote.Ref.{now}
-use lib.ListN.{length}
+use lib.ListN.{length, take}
 use Rattle.methodology.specs.declared.Refusal.the-variants.{Clear}
 use Rattle.methodology.specs.Register.{Call, start, refusal}
 use Rattle.period.specs.declared.Period.{Period}
@@ -25,14 +25,17 @@ use Rattle.period.specs.Calls.{freshPeriod}
 use Rattle.period.proofs.Period.fresh as fresh-fn
 use Rattle.period.proofs.Period.opening as opening-fn
 use Rattle.period.proofs.Period.day as day-fn
+use Rattle.period.proofs.Period.day_of as day-of-fn
 use Rattle.period.proofs.Period.closing as closing-fn
 use Rattle.period.proofs.Period.fresh.Statement as fresh-stated
 use Rattle.period.proofs.Period.opening.Statement as opening-stated
 use Rattle.period.proofs.Period.day.Statement as day-stated
+use Rattle.period.proofs.Period.day_of.Statement as day-of-stated
 use Rattle.period.proofs.Period.closing.Statement as closing-stated
 use Rattle.period.proofs.Period.fresh.Met as fresh-proved
 use Rattle.period.proofs.Period.opening.Met as opening-proved
 use Rattle.period.proofs.Period.day.Met as day-proved
+use Rattle.period.proofs.Period.day_of.Met as day-of-proved
 use Rattle.period.proofs.Period.closing.Met as closing-proved
 use Rattle.period.proofs.Simulation.{starts}
 use Rattle.demand3.specs.Runs.{Asked, Made, Meets, Run}
@@ -44,35 +47,46 @@ use Rattle.demand3.proofs.Fitting.{narrow-fresh, has-run}
 pub data Called : Type 0 where
   opening : (κs : Lfts 1) (a : Args opening-fn.signature κs) (r : Res opening-fn.signature κs) (e : AtExit opening-fn.ended κs) → Called
   day : (κs : Lfts 5) (a : Args day-fn.signature κs) (r : Res day-fn.signature κs) (e : AtExit day-fn.ended κs) → Called
+  day-of : (κs : Lfts 4) (a : Args day-of-fn.signature κs) (r : Res day-of-fn.signature κs) (e : AtExit day-of-fn.ended κs) → Called
   closing : (κs : Lfts 1) (a : Args closing-fn.signature κs) (r : Res closing-fn.signature κs) (e : AtExit closing-fn.ended κs) → Called
 
 -- the period that it was given
 abbrev pub given : Called → Period
 given (opening κs a r e) = a .0
 given (day κs a r e) = a .0
+given (day-of κs a r e) = a .0
 given (closing κs a r e) = a .0
 
--- the call in plain values; the places of a day are 0 self, 1 number, 2 headings, 3 NPVs, 4 margins, 5 extras, 6 out
-abbrev pub made : Called → Made
-made (opening κs a r e) = Made.opening (brought (a .1 .0) (a .1 .1 .0) (now (a .1 .1 .1 .0))) r
-made (day κs a r e) =
+-- The call in plain values. The places of `day` are 0 self, 1 number, 2 headings, 3 NPVs, 4 margins, 5 extras, 6 out; `day_of` has the
+-- headings' array at 2 and their number at 3, and is a day call like the other.
+abbrev pub madeOf : Called → Made
+madeOf (opening κs a r e) = Made.opening (brought (a .1 .0) (a .1 .1 .0) (now (a .1 .1 .1 .0))) r
+madeOf (day κs a r e) =
     Made.day
     (dayBrought (a .1 .0) (now (a .1 .1 .0)) (now (a .1 .1 .1 .0)) (now (a .1 .1 .1 .1 .0)) (now (a .1 .1 .1 .1 .1 .0)))
     (now (a .1 .1 .1 .1 .1 .1 .0))
     r
     (now (e .1 .1 .1 .1 .1 .1 .0))
-made (closing κs a r e) = Made.closing (now (a .1 .0)) r (now (e .1 .0))
+madeOf (day-of κs a r e) =
+    Made.day
+    (dayBrought (a .1 .0) (take (a .1 .1 .1 .0) (a .1 .1 .0)) (now (a .1 .1 .1 .1 .0)) (now (a .1 .1 .1 .1 .1 .0)) (now (a .1 .1 .1 .1 .1 .1 .0)))
+    (now (a .1 .1 .1 .1 .1 .1 .1 .0))
+    r
+    (now (e .1 .1 .1 .1 .1 .1 .1 .0))
+madeOf (closing κs a r e) = Made.closing (now (a .1 .0)) r (now (e .1 .0))
 
 -- what its contract's `requires` and `ensures` say, as they were generated from the code
 module _ {M : Type 1} (𝓤 : URA M) (H : Heap 𝓤) (A : Atoms 𝓤) (mem : Memory → SProp 𝓤) (run : Routine → Fun 𝓤) where
   abbrev pub requiresOf : Called → SProp 𝓤
   requiresOf (opening κs a r e) = opening-fn.clauses 𝓤 H A mem run κs a .requires tt
   requiresOf (day κs a r e) = day-fn.clauses 𝓤 H A mem run κs a .requires tt
+  requiresOf (day-of κs a r e) = day-of-fn.clauses 𝓤 H A mem run κs a .requires tt
   requiresOf (closing κs a r e) = closing-fn.clauses 𝓤 H A mem run κs a .requires tt
 
   abbrev pub ensuresOf : Called → SProp 𝓤
   ensuresOf (opening κs a r e) = opening-fn.clauses 𝓤 H A mem run κs a .ensures tt r e
   ensuresOf (day κs a r e) = day-fn.clauses 𝓤 H A mem run κs a .ensures tt r e
+  ensuresOf (day-of κs a r e) = day-of-fn.clauses 𝓤 H A mem run κs a .ensures tt r e
   ensuresOf (closing κs a r e) = closing-fn.clauses 𝓤 H A mem run κs a .ensures tt r e
 
 pub record Demand3 : Type 2 where
@@ -92,6 +106,7 @@ pub record Demand3 : Type 2 where
   pub fresh-met : {M : Type 1} → fresh-stated.statement M
   pub opening-met : {M : Type 1} → opening-stated.statement M
   pub day-met : {M : Type 1} → day-stated.statement M
+  pub day-of-met : {M : Type 1} → day-of-stated.statement M
   pub closing-met : {M : Type 1} → closing-stated.statement M
   -- The clauses: `fresh` ensures the fresh period, a call ensures `Meets`, and none requires anything.
   pub fresh-ensures :
@@ -104,7 +119,7 @@ pub record Demand3 : Type 2 where
       → fresh-fn.clauses 𝓤 H A mem run κs a .requires tt ≡ connectives 𝓤 .⊤ₛ
   pub calls-ensure :
       {M : Type 1} (𝓤 : URA M) (H : Heap 𝓤) (A : Atoms 𝓤) (mem : Memory → SProp 𝓤) (run : Routine → Fun 𝓤) (c : Called)
-      → ensuresOf 𝓤 H A mem run c ≡ fact 𝓤 (Meets (given c) (made c))
+      → ensuresOf 𝓤 H A mem run c ≡ fact 𝓤 (Meets (given c) (madeOf c))
   pub calls-require :
       {M : Type 1} (𝓤 : URA M) (H : Heap 𝓤) (A : Atoms 𝓤) (mem : Memory → SProp 𝓤) (run : Routine → Fun 𝓤) (c : Called)
       → requiresOf 𝓤 H A mem run c ≡ connectives 𝓤 .⊤ₛ
@@ -113,12 +128,14 @@ requires-are : {M : Type 1} (𝓤 : URA M) (H : Heap 𝓤) (A : Atoms 𝓤) (mem
     → requiresOf 𝓤 H A mem run c ≡ connectives 𝓤 .⊤ₛ
 requires-are 𝓤 H A mem run (opening κs a r e) = refl
 requires-are 𝓤 H A mem run (day κs a r e) = refl
+requires-are 𝓤 H A mem run (day-of κs a r e) = refl
 requires-are 𝓤 H A mem run (closing κs a r e) = refl
 
 ensures-are : {M : Type 1} (𝓤 : URA M) (H : Heap 𝓤) (A : Atoms 𝓤) (mem : Memory → SProp 𝓤) (run : Routine → Fun 𝓤) (c : Called)
-    → ensuresOf 𝓤 H A mem run c ≡ fact 𝓤 (Meets (given c) (made c))
+    → ensuresOf 𝓤 H A mem run c ≡ fact 𝓤 (Meets (given c) (madeOf c))
 ensures-are 𝓤 H A mem run (opening κs a r e) = refl
 ensures-are 𝓤 H A mem run (day κs a r e) = refl
+ensures-are 𝓤 H A mem run (day-of κs a r e) = refl
 ensures-are 𝓤 H A mem run (closing κs a r e) = refl
 
 pub demand-3 : Demand3
@@ -131,6 +148,7 @@ demand-3 =
       fresh-met = fresh-proved.met;
       opening-met = opening-proved.met;
       day-met = day-proved.met;
+      day-of-met = day-of-proved.met;
       closing-met = closing-proved.met;
       fresh-ensures = λ 𝓤 H A mem run κs a p e. refl;
       fresh-requires = λ 𝓤 H A mem run κs a. refl;

@@ -1,5 +1,5 @@
 -- Document 01, "Calls on a period": the refusal table, call by call, each row in its order of precedence. "Where several hold: opening 2, 1;
--- day 2, 4, 3, 5, 6, 7; closing 2, 8, 4." Row 9 is the text's.
+-- day 2, 4, 3, 5, 6, 7; closing 2, 8, 4." Row 9 is the text's. `Heading`, `Status` and `Refusal` are declared in src/lib.rt.
 use mathlib.Core.Bool.{Bool, true, false, not, _&&_, _||_, cond}
 use mathlib.Core.List.{List, [], _∷_}
 use Prim.Native.Nat.{ℕ, suc, _+_, _*_}

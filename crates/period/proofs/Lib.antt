@@ -5,5 +5,6 @@ mod DayRows
 pub mod Sizing
 pub mod Closings
 mod Columns
+mod PassedOn
 pub mod Reach
 pub mod Simulation

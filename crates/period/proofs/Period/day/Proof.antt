@@ -1,6 +1,6 @@
 -- `day` meets its contract: a walk of its MIR, by hand, since it takes a slice of records. The headings are unpacked into columns, and the
 -- function over columns is called; all that the proof knows of the two is that each meets its contract.
--- Of each `&` what it owns is had twice, for the callee and for the exit; what the plain parameters own is made anew; `out` is given away.
+-- What is passed on is in `PassedOn`.
 use mathlib.Core.Path.{_≡_, refl}
 use Prim.Native.Nat.{ℕ, _<_, _^_}
 use mathlib.Core.List.{List, [], _∷_}
@@ -53,6 +53,7 @@ use Rattle.period.specs.declared.Period.{Period}
 use Rattle.period.specs.declared.Reply.{Reply}
 use Rattle.period.specs.Reading.{dayBrought}
 use Rattle.period.specs.Calls.{DayMeets}
+use Rattle.period.proofs.PassedOn.{Amounts, twice}
 use Rattle.period.proofs.Period as P
 use Rattle.period.proofs.Period.Laws as P′
 use Rattle.period.proofs.Reply as S
@@ -143,7 +144,7 @@ module _ {M : Type 1} (𝓤 : URA M) (H : Heap 𝓤) (A : Atoms 𝓤) (W : Given
 
   -- what is left of the parameters once the headings are taken off, and its tokens
   abbrev Rest : Fml
-  Rest = owns (ShrSlice (named 1) (κs .1 .0) i64 ∷ ShrSlice (named 2) (κs .1 .1 .0) u64 ∷ ShrSlice (named 3) (κs .1 .1 .1 .0) u64 ∷ MutSlice (named 4) (κs .1 .1 .1 .1 .0) u64 ∷ []) (ns, (ms, (es, (out, tt)))) (vn ∷ [], (vm ∷ [], (ve ∷ [], (vo ∷ [], tt))))
+  Rest = Amounts (named 1) (named 2) (named 3) (named 4) (κs .1 .0) (κs .1 .1 .0) (κs .1 .1 .1 .0) (κs .1 .1 .1 .1 .0) ns ms es out
 
   abbrev Tok : Item 𝓤
   Tok = ‵ (flft (κs .0) (qs .0)) ⊛ ‵ ftrue
@@ -183,11 +184,8 @@ module _ {M : Type 1} (𝓤 : URA M) (H : Heap 𝓤) (A : Atoms 𝓤) (W : Given
   goes-columns : (c : List ℕ) (w : Val) → Is Columns c (w ∷ []) → ent 𝓤 (⋆ 𝓤 H A (‵ Rest ∷ Toks ∷ [])) (sep 𝓤 (ColumnDay 𝓤 H A mem run .pre (to-columns c w)) (⋆ 𝓤 H A (‵ Es ∷ ‵ Ms ∷ ‵ Ns ∷ [])))
   goes-columns c w g =
       qed W (‵ Rest ∷ Toks ∷ []) ∵
-      fsplit ! $ use1 W (‵ Ns ⊛ ‵ Ns) (shr-slice-copy 𝓤 H A W (named 1) (κs .1 .0) i64 .twice ns (vn ∷ [])) $ split ! $
-      move ! (2 ∷ []) $ fsplit ! $ use1 W (‵ Ms ⊛ ‵ Ms) (shr-slice-copy 𝓤 H A W (named 2) (κs .1 .1 .0) u64 .twice ms (vm ∷ [])) $ split ! $
-      move ! (2 ∷ []) $ fsplit ! $ use1 W (‵ Es ⊛ ‵ Es) (shr-slice-copy 𝓤 H A W (named 3) (κs .1 .1 .1 .0) u64 .twice es (ve ∷ [])) $ split ! $
-      -- [es, twice; out; ms, twice; ns, twice; the tokens]
-      move ! (0 ∷ 2 ∷ []) $ fjoin ! $ move ! (2 ∷ 0 ∷ []) $ fjoin ! $ move ! (3 ∷ 0 ∷ []) $ fjoin ! $
+      use1 W (‵ Rest ⊛ (‵ Es ⊛ ‵ Ms ⊛ ‵ Ns)) (twice (named 1) (named 2) (named 3) (named 4) (κs .1 .0) (κs .1 .1 .0) (κs .1 .1 .1 .0) (κs .1 .1 .1 .1 .0) ns ms es out 𝓤 H A W) $ split ! $ move ! (1 ∷ []) $ split ! $ move ! (1 ∷ []) $ split ! $ move ! (3 ∷ 2 ∷ 0 ∷ 1 ∷ []) $
+      -- [what is passed on; es; ms; ns; the tokens]
       owned ! Columns (Is Columns) (array-makes 𝓤 H A W u64 (uint-makes 𝓤 H A W w64) 768) c _ g $ fjoin ! $ owned ! usize (Is usize) (uint-makes 𝓤 H A W w64) count _ (refl, gh .0) $ fjoin ! $
       owned ! u64 (Is u64) (uint-makes 𝓤 H A W w64) k _ (refl, gk) $ fjoin ! $
       owned ! P.the-row (Is P.the-row) (LL.makes P.the-type P′.the-plain 𝓤 H A) p _ gp $ fjoin ! $ move ! (4 ∷ 0 ∷ []) $ join ! $ nothing ! $ move ! (1 ∷ 0 ∷ []) $ join ! $ done !

@@ -1,6 +1,6 @@
 -- `lend_day` meets its contract: a walk of its MIR, by hand. The array is copied into memory, its first n elements are lent for a lifetime
 -- that the walk makes, `day` is called, the lifetime ends, and the array is back.
--- Of each `&` what it owns is had twice, for the callee and for the exit; what the plain parameters own is made anew; `out` is given away.
+-- What is passed on is in `PassedOn`.
 use mathlib.Core.Path.{_≡_, refl, sym}
 use Prim.Native.Nat.{ℕ, _<_, _^_, _≤_}
 use native.Mathlib.Omega.{arith}
@@ -33,7 +33,7 @@ use denote.Memory.{pointee}
 use denote.Plain.{uint-vals, uint-tells, uint-makes}
 use denote.Builtin.{u64, i64, usize}
 use denote.Ref.{RefT, now}
-use denote.Slice.{sliceTy, sliceVal, ShrSlice, MutSlice, Room, finally, slice-vals, shr-slice-tells, mut-slice-tells, shr-slice-copy}
+use denote.Slice.{sliceTy, sliceVal, ShrSlice, MutSlice, Room, finally, slice-vals, shr-slice-tells, mut-slice-tells}
 use denote.Signature.{plain}
 use denote.Steps.{owned, peeks, heard, nothing, only}
 use denote.Struct.Laws as LL
@@ -53,6 +53,7 @@ use Rattle.period.specs.declared.Period.{Period}
 use Rattle.period.specs.declared.Reply.{Reply}
 use Rattle.period.specs.Reading.{dayBrought}
 use Rattle.period.specs.Calls.{DayMeets}
+use Rattle.period.proofs.PassedOn.{Amounts, twice}
 use Rattle.period.proofs.Period as P
 use Rattle.period.proofs.Period.Laws as P′
 use Rattle.period.proofs.Reply as S
@@ -143,6 +144,9 @@ module _ {M : Type 1} (𝓤 : URA M) (H : Heap 𝓤) (A : Atoms 𝓤) (W : Given
   abbrev Es : Fml
   Es = ShrSlice (named 2) (κs .1 .1 .0) u64 .own es (ve ∷ [])
 
+  abbrev Rest : Fml
+  Rest = Amounts (named 0) (named 1) (named 2) (named 3) (κs .0) (κs .1 .0) (κs .1 .1 .0) (κs .1 .1 .1 .0) ns ms es out
+
   abbrev Toks : Item 𝓤
   Toks = ‵ (flft (κs .0) (qs .0)) ⊛ ‵ (flft (κs .1 .0) (qs .1 .0)) ⊛ ‵ (flft (κs .1 .1 .0) (qs .1 .1 .0)) ⊛ ‵ (flft (κs .1 .1 .1 .0) (qs .1 .1 .1 .0)) ⊛ ‵ ftrue
 
@@ -178,11 +182,9 @@ module _ {M : Type 1} (𝓤 : URA M) (H : Heap 𝓤) (A : Atoms 𝓤) (W : Given
     goes-day =
         qed W ((Toks ⊛ ‵ (owns (P.the-row ∷ u64 ∷ Array T.the-row 256 ∷ usize ∷ ShrSlice (named 0) (κs .0) i64 ∷ ShrSlice (named 1) (κs .1 .0) u64 ∷ ShrSlice (named 2) (κs .1 .1 .0) u64 ∷ MutSlice (named 3) (κs .1 .1 .1 .0) u64 ∷ []) a vs)) ∷ ‵ (flft κ fullShare) ∷ ‵ (Front T.the-row 256 c xs b κ γ) ∷ []) ∵
         split ! $ move ! (1 ∷ []) $ fsplit ! $ drop ! $ fsplit ! $ drop ! $ fsplit ! $ drop ! $ fsplit ! $ drop ! $
-        fsplit ! $ use1 W (‵ Ns ⊛ ‵ Ns) (shr-slice-copy 𝓤 H A W (named 0) (κs .0) i64 .twice ns (vn ∷ [])) $ split ! $
-        move ! (2 ∷ []) $ fsplit ! $ use1 W (‵ Ms ⊛ ‵ Ms) (shr-slice-copy 𝓤 H A W (named 1) (κs .1 .0) u64 .twice ms (vm ∷ [])) $ split ! $
-        move ! (2 ∷ []) $ fsplit ! $ use1 W (‵ Es ⊛ ‵ Es) (shr-slice-copy 𝓤 H A W (named 2) (κs .1 .1 .0) u64 .twice es (ve ∷ [])) $ split ! $
-        -- [es, twice; out; ms, twice; ns, twice; the tokens; the new token; the headings]
-        move ! (0 ∷ 2 ∷ []) $ fjoin ! $ move ! (2 ∷ 0 ∷ []) $ fjoin ! $ move ! (3 ∷ 0 ∷ []) $ fjoin ! $ move ! (6 ∷ 0 ∷ []) $ fjoin ! $
+        use1 W (‵ Rest ⊛ (‵ Es ⊛ ‵ Ms ⊛ ‵ Ns)) (twice (named 0) (named 1) (named 2) (named 3) (κs .0) (κs .1 .0) (κs .1 .1 .0) (κs .1 .1 .1 .0) ns ms es out 𝓤 H A W) $ split ! $ move ! (1 ∷ []) $ split ! $ move ! (1 ∷ []) $ split ! $ move ! (3 ∷ 2 ∷ 0 ∷ 1 ∷ []) $
+        -- [what is passed on; es; ms; ns; the tokens; the new token; the headings]
+        move ! (6 ∷ 0 ∷ []) $ fjoin ! $
         owned ! u64 (Is u64) (uint-makes 𝓤 H A W w64) k _ (refl, gk) $ fjoin ! $ owned ! P.the-row (Is P.the-row) (LL.makes P.the-type P′.the-plain 𝓤 H A) p _ gp $ fjoin ! $
         move ! (5 ∷ 4 ∷ []) $ join ! $ join ! $ nothing ! $ move ! (1 ∷ 0 ∷ []) $ join ! $ done !
 
