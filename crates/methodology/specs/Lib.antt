@@ -5,3 +5,4 @@ pub mod Day
 pub mod Contribution
 pub mod Refusals
 pub mod Register
+pub mod Text

@@ -1,0 +1,270 @@
+-- Worked texts with the reports that they must give: document 01's printed month, texts refused by every row that a text can meet, and
+-- months with groups, clients and several days. All but six were worked out by others from document 01; the theorem computes them.
+use mathlib.Core.Path.{_≡_, refl}
+use mathlib.Core.List.{List, [], _∷_, map}
+use mathlib.Core.Option.{some}
+use Prim.Native.String.{String}
+use lib.IntN.{pos}
+use Rattle.methodology.specs.Text.{goesOn, bad, account, bytes, same, onto, split, valueFrom, numberOf, below0, above0, signedOf, kindOf, also, everyField, badBytes, numbersAfter, accountBy, accountOf, digits, printed, rows, dayLines, fundLines, readPeriod, opened, readMember, readDay, sized, withAccount, readAccount, readLine, closed, atEnd, followedBy, reportFrom, reportOf}
+use Rattle.methodology.specs.Account.{DayInput}
+use Rattle.methodology.specs.Register.{Register, start}
+use Rattle.methodology.proofs.Samples.{computed}
+
+-- what a report is made of, opened
+unfoldable reads : Unit {0}
+unfolding bytes same onto split valueFrom numberOf below0 above0 signedOf kindOf also everyField badBytes numbersAfter accountBy accountOf digits printed rows dayLines fundLines readPeriod opened readMember readDay sized withAccount readAccount readLine closed atEnd followedBy reportFrom reportOf
+reads = tt
+
+infix 20 _gives_
+pub record Worked : Type 0 where
+  pub text : String
+  pub report : String
+
+abbrev pub _gives_ : String → String → Worked
+text gives report = record { text = text; report = report }
+
+pub texts : List Worked
+texts =
+    -- example
+    ("period\t2\t1\nmember\t1\t0\nmember\t2\t0\nday\t3\t2\nacct\t1\t0\tH\t390000000\t0\t0\t0\nacct\t2\t0\tH\t10000000\t0\t0\t0\nend\n" gives "day\t3\t400000000\t390000000\ndaily\t1\t390000000\t975000000000\t38025000000\t41827500000\t83655000000\ndaily\t2\t10000000\t25000000000\t975000000\t1072500000\t2145000000\nfund\t1\t390000000\t468275000\ncontribution\t1\t418275000\t418275000\t836550000\ncontribution\t2\t10725000\t50000000\t100000000\n")
+    -- empty input
+    ∷ ("" gives "refused\t9\t1\n")
+    -- one lf
+    ∷ ("\n" gives "refused\t9\t1\n")
+    -- cut after period
+    ∷ ("period\t2\t1\n" gives "refused\t9\t2\n")
+    -- cut after member 1
+    ∷ ("period\t2\t1\nmember\t1\t0\n" gives "refused\t9\t3\n")
+    -- cut after members
+    ∷ ("period\t2\t1\nmember\t1\t0\nmember\t2\t0\n" gives "refused\t9\t4\n")
+    -- cut after day
+    ∷ ("period\t2\t1\nmember\t1\t0\nmember\t2\t0\nday\t3\t2\n" gives "refused\t9\t5\n")
+    -- cut after acct 1
+    ∷ ("period\t2\t1\nmember\t1\t0\nmember\t2\t0\nday\t3\t2\nacct\t1\t0\tH\t390000000\t0\t0\t0\n" gives "refused\t9\t6\n")
+    -- no end
+    ∷ ("period\t2\t1\nmember\t1\t0\nmember\t2\t0\nday\t3\t2\nacct\t1\t0\tH\t390000000\t0\t0\t0\nacct\t2\t0\tH\t10000000\t0\t0\t0\n" gives "day\t3\t400000000\t390000000\ndaily\t1\t390000000\t975000000000\t38025000000\t41827500000\t83655000000\ndaily\t2\t10000000\t25000000000\t975000000\t1072500000\t2145000000\nrefused\t9\t7\n")
+    -- member line missing
+    ∷ ("period\t2\t1\nmember\t1\t0\nday\t3\t2\nacct\t1\t0\tH\t390000000\t0\t0\t0\nacct\t2\t0\tH\t10000000\t0\t0\t0\nend\n" gives "refused\t9\t3\n")
+    -- acct line missing
+    ∷ ("period\t2\t1\nmember\t1\t0\nmember\t2\t0\nday\t3\t2\nacct\t2\t0\tH\t10000000\t0\t0\t0\nend\n" gives "refused\t9\t6\n")
+    -- end where an acct is due
+    ∷ ("period\t2\t1\nmember\t1\t0\nmember\t2\t0\nday\t3\t2\nacct\t1\t0\tH\t390000000\t0\t0\t0\nend\n" gives "refused\t9\t6\n")
+    -- end without lf
+    ∷ ("period\t2\t1\nmember\t1\t0\nmember\t2\t0\nday\t3\t2\nacct\t1\t0\tH\t390000000\t0\t0\t0\nacct\t2\t0\tH\t10000000\t0\t0\t0\nend" gives "day\t3\t400000000\t390000000\ndaily\t1\t390000000\t975000000000\t38025000000\t41827500000\t83655000000\ndaily\t2\t10000000\t25000000000\t975000000\t1072500000\t2145000000\nrefused\t9\t7\n")
+    -- cut in a line
+    ∷ ("period\t2\t1\nmember\t1\t0\nmember\t2\t0\nday\t3\t2\nacct\t1\t0" gives "refused\t9\t5\n")
+    -- lf after end
+    ∷ ("period\t2\t1\nmember\t1\t0\nmember\t2\t0\nday\t3\t2\nacct\t1\t0\tH\t390000000\t0\t0\t0\nacct\t2\t0\tH\t10000000\t0\t0\t0\nend\n\n" gives "day\t3\t400000000\t390000000\ndaily\t1\t390000000\t975000000000\t38025000000\t41827500000\t83655000000\ndaily\t2\t10000000\t25000000000\t975000000\t1072500000\t2145000000\nrefused\t9\t8\n")
+    -- byte after end
+    ∷ ("period\t2\t1\nmember\t1\t0\nmember\t2\t0\nday\t3\t2\nacct\t1\t0\tH\t390000000\t0\t0\t0\nacct\t2\t0\tH\t10000000\t0\t0\t0\nend\nx" gives "day\t3\t400000000\t390000000\ndaily\t1\t390000000\t975000000000\t38025000000\t41827500000\t83655000000\ndaily\t2\t10000000\t25000000000\t975000000\t1072500000\t2145000000\nrefused\t9\t8\n")
+    -- second end
+    ∷ ("period\t2\t1\nmember\t1\t0\nmember\t2\t0\nday\t3\t2\nacct\t1\t0\tH\t390000000\t0\t0\t0\nacct\t2\t0\tH\t10000000\t0\t0\t0\nend\nend\n" gives "day\t3\t400000000\t390000000\ndaily\t1\t390000000\t975000000000\t38025000000\t41827500000\t83655000000\ndaily\t2\t10000000\t25000000000\t975000000\t1072500000\t2145000000\nrefused\t9\t8\n")
+    -- 9 after end before 8
+    ∷ ("period\t1\t1\nmember\t1\t0\nend\n\n" gives "refused\t9\t4\n")
+    -- 8 at the end line
+    ∷ ("period\t1\t1\nmember\t1\t0\nend\n" gives "refused\t8\t3\n")
+    -- second period
+    ∷ ("period\t2\t1\nmember\t1\t0\nmember\t2\t0\nday\t3\t2\nacct\t1\t0\tH\t390000000\t0\t0\t0\nacct\t2\t0\tH\t10000000\t0\t0\t0\nperiod\t2\t1\n" gives "day\t3\t400000000\t390000000\ndaily\t1\t390000000\t975000000000\t38025000000\t41827500000\t83655000000\ndaily\t2\t10000000\t25000000000\t975000000\t1072500000\t2145000000\nrefused\t9\t7\n")
+    -- empty line
+    ∷ ("period\t2\t1\nmember\t1\t0\nmember\t2\t0\n\nday\t3\t2\nacct\t1\t0\tH\t390000000\t0\t0\t0\nacct\t2\t0\tH\t10000000\t0\t0\t0\nend\n" gives "refused\t9\t4\n")
+    -- end with a field
+    ∷ ("period\t2\t1\nmember\t1\t0\nmember\t2\t0\nday\t3\t2\nacct\t1\t0\tH\t390000000\t0\t0\t0\nacct\t2\t0\tH\t10000000\t0\t0\t0\nend\t\n" gives "day\t3\t400000000\t390000000\ndaily\t1\t390000000\t975000000000\t38025000000\t41827500000\t83655000000\ndaily\t2\t10000000\t25000000000\t975000000\t1072500000\t2145000000\nrefused\t9\t7\n")
+    -- word in capitals
+    ∷ ("period\t2\t1\nmember\t1\t0\nmember\t2\t0\nday\t3\t2\nacct\t1\t0\tH\t390000000\t0\t0\t0\nacct\t2\t0\tH\t10000000\t0\t0\t0\nEND\n" gives "day\t3\t400000000\t390000000\ndaily\t1\t390000000\t975000000000\t38025000000\t41827500000\t83655000000\ndaily\t2\t10000000\t25000000000\t975000000\t1072500000\t2145000000\nrefused\t9\t7\n")
+    -- word with more
+    ∷ ("period\t2\t1\nmember\t1\t0\nmember\t2\t0\ndays\t3\t2\nacct\t1\t0\tH\t390000000\t0\t0\t0\nacct\t2\t0\tH\t10000000\t0\t0\t0\nend\n" gives "refused\t9\t4\n")
+    -- n 0
+    ∷ ("period\t0\t1\nmember\t1\t0\nmember\t2\t0\nday\t3\t2\nacct\t1\t0\tH\t390000000\t0\t0\t0\nacct\t2\t0\tH\t10000000\t0\t0\t0\nend\n" gives "refused\t1\t1\n")
+    -- n 33
+    ∷ ("period\t33\t1\nmember\t1\t0\nmember\t2\t0\nday\t3\t2\nacct\t1\t0\tH\t390000000\t0\t0\t0\nacct\t2\t0\tH\t10000000\t0\t0\t0\nend\n" gives "refused\t1\t1\n")
+    -- n 33 and nothing under it
+    ∷ ("period\t33\t1\n" gives "refused\t1\t1\n")
+    -- k 0 before a bad member line
+    ∷ ("period\t2\t0\nx\nmember\t2\t0\nday\t3\t2\nacct\t1\t0\tH\t390000000\t0\t0\t0\nacct\t2\t0\tH\t10000000\t0\t0\t0\nend\n" gives "refused\t1\t1\n")
+    -- k 17
+    ∷ ("period\t2\t17\nmember\t1\t0\nmember\t2\t0\nday\t3\t2\nacct\t1\t0\tH\t390000000\t0\t0\t0\nacct\t2\t0\tH\t10000000\t0\t0\t0\nend\n" gives "refused\t1\t1\n")
+    -- n of 13 digits
+    ∷ ("period\t9999999999999\t1\nmember\t1\t0\nmember\t2\t0\nday\t3\t2\nacct\t1\t0\tH\t390000000\t0\t0\t0\nacct\t2\t0\tH\t10000000\t0\t0\t0\nend\n" gives "refused\t1\t1\n")
+    -- n 33 in a bad line
+    ∷ ("period\t33\tx\nmember\t1\t0\nmember\t2\t0\nday\t3\t2\nacct\t1\t0\tH\t390000000\t0\t0\t0\nacct\t2\t0\tH\t10000000\t0\t0\t0\nend\n" gives "refused\t9\t1\n")
+    -- n 33 in a line too long
+    ∷ ("period\t33\t1\t1\nmember\t1\t0\nmember\t2\t0\nday\t3\t2\nacct\t1\t0\tH\t390000000\t0\t0\t0\nacct\t2\t0\tH\t10000000\t0\t0\t0\nend\n" gives "refused\t9\t1\n")
+    -- n 1
+    ∷ ("period\t-1\t1\nmember\t1\t0\nmember\t2\t0\nday\t3\t2\nacct\t1\t0\tH\t390000000\t0\t0\t0\nacct\t2\t0\tH\t10000000\t0\t0\t0\nend\n" gives "refused\t9\t1\n")
+    -- group 33 at the period line
+    ∷ ("period\t2\t1\nmember\t1\t0\nmember\t2\t33\nday\t3\t2\nacct\t1\t0\tH\t390000000\t0\t0\t0\nacct\t2\t0\tH\t10000000\t0\t0\t0\nend\n" gives "refused\t1\t1\n")
+    -- 9 before group 33
+    ∷ ("period\t2\t1\nmember\t1\t33\nmember\t2\tx\nday\t3\t2\nacct\t1\t0\tH\t390000000\t0\t0\t0\nacct\t2\t0\tH\t10000000\t0\t0\t0\nend\n" gives "refused\t9\t3\n")
+    -- group of 13 digits
+    ∷ ("period\t2\t1\nmember\t1\t0\nmember\t2\t9999999999999\nday\t3\t2\nacct\t1\t0\tH\t390000000\t0\t0\t0\nacct\t2\t0\tH\t10000000\t0\t0\t0\nend\n" gives "refused\t1\t1\n")
+    -- group 33 before a bad day line
+    ∷ ("period\t2\t1\nmember\t1\t0\nmember\t2\t33\nx\nacct\t1\t0\tH\t390000000\t0\t0\t0\nacct\t2\t0\tH\t10000000\t0\t0\t0\nend\n" gives "refused\t1\t1\n")
+    -- group 32
+    ∷ ("period\t2\t1\nmember\t1\t0\nmember\t2\t32\nday\t3\t2\nacct\t1\t0\tH\t390000000\t0\t0\t0\nacct\t2\t0\tH\t10000000\t0\t0\t0\nend\n" gives "day\t3\t400000000\t390000000\ndaily\t1\t390000000\t975000000000\t38025000000\t41827500000\t83655000000\ndaily\t2\t10000000\t25000000000\t975000000\t1072500000\t2145000000\nfund\t1\t390000000\t468275000\ncontribution\t1\t418275000\t418275000\t836550000\ncontribution\t2\t10725000\t50000000\t100000000\n")
+    -- member number wrong
+    ∷ ("period\t2\t1\nmember\t1\t0\nmember\t3\t0\nday\t3\t2\nacct\t1\t0\tH\t390000000\t0\t0\t0\nacct\t2\t0\tH\t10000000\t0\t0\t0\nend\n" gives "refused\t9\t3\n")
+    -- member number twice
+    ∷ ("period\t2\t1\nmember\t1\t0\nmember\t1\t0\nday\t3\t2\nacct\t1\t0\tH\t390000000\t0\t0\t0\nacct\t2\t0\tH\t10000000\t0\t0\t0\nend\n" gives "refused\t9\t3\n")
+    -- day 0
+    ∷ ("period\t2\t1\nmember\t1\t0\nmember\t2\t0\nday\t0\t2\nacct\t1\t0\tH\t390000000\t0\t0\t0\nacct\t2\t0\tH\t10000000\t0\t0\t0\nend\n" gives "refused\t3\t4\n")
+    -- day 32
+    ∷ ("period\t2\t1\nmember\t1\t0\nmember\t2\t0\nday\t32\t2\nacct\t1\t0\tH\t390000000\t0\t0\t0\nacct\t2\t0\tH\t10000000\t0\t0\t0\nend\n" gives "refused\t3\t4\n")
+    -- day of 13 digits
+    ∷ ("period\t2\t1\nmember\t1\t0\nmember\t2\t0\nday\t9999999999999\t2\nacct\t1\t0\tH\t390000000\t0\t0\t0\nacct\t2\t0\tH\t10000000\t0\t0\t0\nend\n" gives "refused\t3\t4\n")
+    -- 9 before 3
+    ∷ ("period\t2\t1\nmember\t1\t0\nmember\t2\t0\nday\t0\t2\nacct\t1\t0\tH\t390000000\t0\t0\t0\nacct\t2\nend\n" gives "refused\t9\t6\n")
+    -- missing line before 3
+    ∷ ("period\t2\t1\nmember\t1\t0\nmember\t2\t0\nday\t0\t2\nacct\t1\t0\tH\t390000000\t0\t0\t0\n" gives "refused\t9\t6\n")
+    -- 3 before 5
+    ∷ ("period\t2\t1\nmember\t1\t0\nmember\t2\t0\nday\t0\t2\nacct\t2\t0\tH\t10000000\t0\t0\t0\nacct\t2\t0\tH\t10000000\t0\t0\t0\nend\n" gives "refused\t3\t4\n")
+    -- day again
+    ∷ ("period\t2\t1\nmember\t1\t0\nmember\t2\t0\nday\t3\t2\nacct\t1\t0\tH\t390000000\t0\t0\t0\nacct\t2\t0\tH\t10000000\t0\t0\t0\nday\t3\t2\nacct\t1\t0\tH\t390000000\t0\t0\t0\nacct\t2\t0\tH\t10000000\t0\t0\t0\nend\n" gives "day\t3\t400000000\t390000000\ndaily\t1\t390000000\t975000000000\t38025000000\t41827500000\t83655000000\ndaily\t2\t10000000\t25000000000\t975000000\t1072500000\t2145000000\nrefused\t3\t7\n")
+    -- count 0
+    ∷ ("period\t2\t1\nmember\t1\t0\nmember\t2\t0\nday\t3\t0\nacct\t1\t0\tH\t390000000\t0\t0\t0\nacct\t2\t0\tH\t10000000\t0\t0\t0\nend\n" gives "refused\t4\t4\n")
+    -- count 257
+    ∷ ("period\t2\t1\nmember\t1\t0\nmember\t2\t0\nday\t3\t257\nacct\t1\t0\tH\t390000000\t0\t0\t0\nacct\t2\t0\tH\t10000000\t0\t0\t0\nend\n" gives "refused\t4\t4\n")
+    -- count 0 before day 0
+    ∷ ("period\t2\t1\nmember\t1\t0\nmember\t2\t0\nday\t0\t0\nacct\t1\t0\tH\t390000000\t0\t0\t0\nacct\t2\t0\tH\t10000000\t0\t0\t0\nend\n" gives "refused\t4\t4\n")
+    -- count 257 before 9
+    ∷ ("period\t2\t1\nmember\t1\t0\nmember\t2\t0\nday\t3\t257\nx\nacct\t2\t0\tH\t10000000\t0\t0\t0\nend\n" gives "refused\t4\t4\n")
+    -- count 257 at the end of input
+    ∷ ("period\t2\t1\nmember\t1\t0\nmember\t2\t0\nday\t3\t257\n" gives "refused\t4\t4\n")
+    -- count of 13 digits
+    ∷ ("period\t2\t1\nmember\t1\t0\nmember\t2\t0\nday\t3\t9999999999999\nacct\t1\t0\tH\t390000000\t0\t0\t0\nacct\t2\t0\tH\t10000000\t0\t0\t0\nend\n" gives "refused\t4\t4\n")
+    -- count of 14 digits
+    ∷ ("period\t2\t1\nmember\t1\t0\nmember\t2\t0\nday\t3\t10000000000000\nacct\t1\t0\tH\t390000000\t0\t0\t0\nacct\t2\t0\tH\t10000000\t0\t0\t0\nend\n" gives "refused\t9\t4\n")
+    -- count 257 in a bad line
+    ∷ ("period\t2\t1\nmember\t1\t0\nmember\t2\t0\nday\t3\t257\t0\nacct\t1\t0\tH\t390000000\t0\t0\t0\nacct\t2\t0\tH\t10000000\t0\t0\t0\nend\n" gives "refused\t9\t4\n")
+    -- 5 at the account s line
+    ∷ ("period\t2\t1\nmember\t1\t0\nmember\t2\t0\nday\t3\t2\nacct\t1\t0\tH\t390000000\t0\t0\t0\nacct\t3\t0\tH\t1\t0\t0\t0\nend\n" gives "refused\t5\t6\n")
+    -- member of 13 digits
+    ∷ ("period\t2\t1\nmember\t1\t0\nmember\t2\t0\nday\t3\t2\nacct\t1\t0\tH\t390000000\t0\t0\t0\nacct\t9999999999999\t0\tH\t1\t0\t0\t0\nend\n" gives "refused\t5\t6\n")
+    -- member 2 32 2
+    ∷ ("period\t2\t1\nmember\t1\t0\nmember\t2\t0\nday\t3\t2\nacct\t1\t0\tH\t390000000\t0\t0\t0\nacct\t4294967298\t0\tH\t1\t0\t0\t0\nend\n" gives "refused\t5\t6\n")
+    -- number 65536
+    ∷ ("period\t2\t1\nmember\t1\t0\nmember\t2\t0\nday\t3\t2\nacct\t1\t0\tH\t390000000\t0\t0\t0\nacct\t1\t65536\tU\t1\t0\t0\t0\nend\n" gives "refused\t5\t6\n")
+    -- number of 13 digits
+    ∷ ("period\t2\t1\nmember\t1\t0\nmember\t2\t0\nday\t3\t2\nacct\t1\t0\tH\t390000000\t0\t0\t0\nacct\t1\t9999999999999\tU\t1\t0\t0\t0\nend\n" gives "refused\t5\t6\n")
+    -- member 0
+    ∷ ("period\t2\t1\nmember\t1\t0\nmember\t2\t0\nday\t3\t2\nacct\t0\t0\tH\t1\t0\t0\t0\nacct\t2\t0\tH\t10000000\t0\t0\t0\nend\n" gives "refused\t5\t5\n")
+    -- last member missing
+    ∷ ("period\t2\t1\nmember\t1\t0\nmember\t2\t0\nday\t3\t1\nacct\t1\t0\tH\t390000000\t0\t0\t0\nend\n" gives "refused\t5\t6\n")
+    -- and no such line
+    ∷ ("period\t2\t1\nmember\t1\t0\nmember\t2\t0\nday\t3\t1\nacct\t1\t0\tH\t390000000\t0\t0\t0\n" gives "refused\t5\t6\n")
+    -- and a bad line there
+    ∷ ("period\t2\t1\nmember\t1\t0\nmember\t2\t0\nday\t3\t1\nacct\t1\t0\tH\t390000000\t0\t0\t0\nx\nend\n" gives "refused\t5\t6\n")
+    -- surplus acct line
+    ∷ ("period\t2\t1\nmember\t1\t0\nmember\t2\t0\nday\t3\t2\nacct\t1\t0\tH\t390000000\t0\t0\t0\nacct\t2\t0\tH\t10000000\t0\t0\t0\nacct\t2\t1\tU\t1\t0\t0\t0\nend\n" gives "day\t3\t400000000\t390000000\ndaily\t1\t390000000\t975000000000\t38025000000\t41827500000\t83655000000\ndaily\t2\t10000000\t25000000000\t975000000\t1072500000\t2145000000\nrefused\t9\t7\n")
+    -- surplus member line
+    ∷ ("period\t2\t1\nmember\t1\t0\nmember\t2\t0\nmember\t3\t0\nday\t3\t2\nacct\t1\t0\tH\t390000000\t0\t0\t0\nacct\t2\t0\tH\t10000000\t0\t0\t0\nend\n" gives "refused\t9\t4\n")
+    -- group 33 before it
+    ∷ ("period\t2\t1\nmember\t1\t0\nmember\t2\t33\nmember\t3\t0\nday\t3\t2\nacct\t1\t0\tH\t390000000\t0\t0\t0\nacct\t2\t0\tH\t10000000\t0\t0\t0\nend\n" gives "refused\t1\t1\n")
+    -- 5 before the surplus
+    ∷ ("period\t2\t1\nmember\t1\t0\nmember\t2\t0\nday\t3\t2\nacct\t1\t0\tH\t390000000\t0\t0\t0\nacct\t1\t0\tH\t390000000\t0\t0\t0\nacct\t2\t0\tH\t10000000\t0\t0\t0\nend\n" gives "refused\t5\t6\n")
+    -- 5 before 6
+    ∷ ("period\t2\t1\nmember\t1\t0\nmember\t2\t0\nday\t3\t2\nacct\t1\t0\tH\t1000000000001\t0\t0\t0\nacct\t3\t0\tH\t1\t0\t0\t0\nend\n" gives "refused\t5\t6\n")
+    -- base of 13 digits
+    ∷ ("period\t2\t1\nmember\t1\t0\nmember\t2\t0\nday\t3\t2\nacct\t1\t0\tH\t390000000\t0\t0\t0\nacct\t2\t0\tH\t1000000000001\t0\t0\t0\nend\n" gives "refused\t6\t6\n")
+    -- greatest number
+    ∷ ("period\t2\t1\nmember\t1\t0\nmember\t2\t0\nday\t3\t2\nacct\t1\t0\tH\t390000000\t0\t0\t0\nacct\t2\t0\tH\t9999999999999\t0\t0\t0\nend\n" gives "refused\t6\t6\n")
+    -- least number
+    ∷ ("period\t2\t1\nmember\t1\t0\nmember\t2\t0\nday\t3\t2\nacct\t1\t0\tH\t390000000\t0\t0\t0\nacct\t2\t0\tH\t0\t0\t0\t-9999999999999\nend\n" gives "refused\t6\t6\n")
+    -- limits
+    ∷ ("period\t2\t1\nmember\t1\t0\nmember\t2\t0\nday\t3\t2\nacct\t1\t0\tH\t390000000\t0\t0\t0\nacct\t2\t0\tH\t1000000000000\t0\t0\t-1000000000000\nend\n" gives "day\t3\t2000390000000\t2000000000000\ndaily\t1\t390000000\t194961983\t38992396483\t42891636131\t85783272262\ndaily\t2\t2000000000000\t999805038018\t199961007603517\t219957108363869\t439914216727738\nfund\t1\t2000000000000\t2200000000003\ncontribution\t1\t428916363\t428916363\t857832726\ncontribution\t2\t2199571083640\t2199571083640\t4399142167280\n")
+    -- margin
+    ∷ ("period\t2\t1\nmember\t1\t0\nmember\t2\t0\nday\t3\t2\nacct\t1\t0\tH\t0\t1000000000001\t0\t0\nacct\t2\t0\tH\t10000000\t0\t0\t0\nend\n" gives "refused\t6\t5\n")
+    -- b4 the first account not the first slice
+    ∷ ("period\t2\t1\nmember\t1\t0\nmember\t2\t0\nday\t3\t2\nacct\t1\t0\tH\t0\t1000000000001\t0\t0\nacct\t2\t0\tH\t1000000000001\t0\t0\t0\nend\n" gives "refused\t6\t5\n")
+    -- extra above margin
+    ∷ ("period\t2\t1\nmember\t1\t0\nmember\t2\t0\nday\t3\t2\nacct\t1\t0\tH\t390000000\t0\t0\t0\nacct\t2\t0\tH\t1\t5\t6\t0\nend\n" gives "refused\t6\t6\n")
+    -- 9 before 6
+    ∷ ("period\t2\t1\nmember\t1\t0\nmember\t2\t0\nday\t3\t2\nacct\t1\t0\tH\t0\t0\t1\t0\nacct\t2\t0\tH\t0\t-1\t0\t0\nend\n" gives "refused\t9\t6\n")
+    -- 7 at the day line
+    ∷ ("period\t2\t1\nmember\t1\t0\nmember\t2\t0\nday\t3\t2\nacct\t1\t0\tH\t0\t0\t0\t0\nacct\t2\t0\tH\t0\t0\t0\t0\nend\n" gives "refused\t7\t4\n")
+    -- number x
+    ∷ ("period\t2\t1\nmember\t1\t0\nmember\t2\t0\nday\t3\t2\nacct\t1\t0\tH\tx\t0\t0\t0\nacct\t2\t0\tH\t10000000\t0\t0\t0\nend\n" gives "refused\t9\t5\n")
+    -- 0
+    ∷ ("period\t2\t1\nmember\t1\t0\nmember\t2\t0\nday\t3\t2\nacct\t1\t0\tH\t-0\t0\t0\t0\nacct\t2\t0\tH\t10000000\t0\t0\t0\nend\n" gives "refused\t9\t5\n")
+    -- 01
+    ∷ ("period\t2\t1\nmember\t1\t0\nmember\t2\t0\nday\t3\t2\nacct\t1\t0\tH\t-01\t0\t0\t0\nacct\t2\t0\tH\t10000000\t0\t0\t0\nend\n" gives "refused\t9\t5\n")
+    -- 00
+    ∷ ("period\t2\t1\nmember\t1\t0\nmember\t2\t0\nday\t3\t2\nacct\t1\t0\tH\t00\t0\t0\t0\nacct\t2\t0\tH\t10000000\t0\t0\t0\nend\n" gives "refused\t9\t5\n")
+    -- 1
+    ∷ ("period\t2\t1\nmember\t1\t0\nmember\t2\t0\nday\t3\t2\nacct\t1\t0\tH\t+1\t0\t0\t0\nacct\t2\t0\tH\t10000000\t0\t0\t0\nend\n" gives "refused\t9\t5\n")
+    -- 14 digits
+    ∷ ("period\t2\t1\nmember\t1\t0\nmember\t2\t0\nday\t3\t2\nacct\t1\t0\tH\t10000000000000\t0\t0\t0\nacct\t2\t0\tH\t10000000\t0\t0\t0\nend\n" gives "refused\t9\t5\n")
+    -- minus and 14 digits
+    ∷ ("period\t2\t1\nmember\t1\t0\nmember\t2\t0\nday\t3\t2\nacct\t1\t0\tH\t-10000000000000\t0\t0\t0\nacct\t2\t0\tH\t10000000\t0\t0\t0\nend\n" gives "refused\t9\t5\n")
+    -- minus in margin
+    ∷ ("period\t2\t1\nmember\t1\t0\nmember\t2\t0\nday\t3\t2\nacct\t1\t0\tH\t1\t-1\t0\t0\nacct\t2\t0\tH\t10000000\t0\t0\t0\nend\n" gives "refused\t9\t5\n")
+    -- minus in extra
+    ∷ ("period\t2\t1\nmember\t1\t0\nmember\t2\t0\nday\t3\t2\nacct\t1\t0\tH\t1\t1\t-1\t0\nacct\t2\t0\tH\t10000000\t0\t0\t0\nend\n" gives "refused\t9\t5\n")
+    -- empty field
+    ∷ ("period\t2\t1\nmember\t1\t0\nmember\t2\t0\nday\t3\t2\nacct\t1\t0\tH\t\t0\t0\t0\nacct\t2\t0\tH\t10000000\t0\t0\t0\nend\n" gives "refused\t9\t5\n")
+    -- a stress too few
+    ∷ ("period\t2\t1\nmember\t1\t0\nmember\t2\t0\nday\t3\t2\nacct\t1\t0\tH\t1\t0\t0\nacct\t2\t0\tH\t10000000\t0\t0\t0\nend\n" gives "refused\t9\t5\n")
+    -- a stress too many
+    ∷ ("period\t2\t1\nmember\t1\t0\nmember\t2\t0\nday\t3\t2\nacct\t1\t0\tH\t1\t0\t0\t0\t0\nacct\t2\t0\tH\t10000000\t0\t0\t0\nend\n" gives "refused\t9\t5\n")
+    -- last tab
+    ∷ ("period\t2\t1\nmember\t1\t0\nmember\t2\t0\nday\t3\t2\nacct\t1\t0\tH\t390000000\t0\t0\t0\t\nacct\t2\t0\tH\t10000000\t0\t0\t0\nend\n" gives "refused\t9\t5\n")
+    -- cr
+    ∷ ("period\t2\t1\nmember\t1\t0\nmember\t2\t0\nday\t3\t2\nacct\t1\t0\tH\t390000000\t0\t0\t0\nacct\t2\t0\tH\t10000000\t0\t0\t0\nend\r\n" gives "day\t3\t400000000\t390000000\ndaily\t1\t390000000\t975000000000\t38025000000\t41827500000\t83655000000\ndaily\t2\t10000000\t25000000000\t975000000\t1072500000\t2145000000\nrefused\t9\t7\n")
+    -- cr after a number
+    ∷ ("period\t2\t1\nmember\t1\t0\nmember\t2\t0\nday\t3\t2\nacct\t1\t0\tH\t390000000\t0\t0\t0\r\nacct\t2\t0\tH\t10000000\t0\t0\t0\nend\n" gives "refused\t9\t5\n")
+    -- not ascii
+    ∷ ("period\t2\t1\nmember\t1\t0\nmember\t2\t0\nday\t3\t2\nacct\t1\t0\tÈ\t1\t0\t0\t0\nacct\t2\t0\tH\t10000000\t0\t0\t0\nend\n" gives "refused\t9\t5\n")
+    -- first of two bad lines
+    ∷ ("period\t2\t1\nmember\t1\t0\nmember\t2\t0\nday\t3\t2\nacct\t1\t0\tH\tx\t0\t0\t0\nacct\t1\t0\tH\tx\t0\t0\t0\nend\n" gives "refused\t9\t5\n")
+    -- 512 bytes
+    ∷ ("period\t2\t1\nmember\t1\t0\nmember\t2\t0\nday\t3\t2\nacct\t1\t0\tHHHHHHHHHHHHHHHHHHHHHHHHHHHHHHHHHHHHHHHHHHHHHHHHHHHHHHHHHHHHHHHHHHHHHHHHHHHHHHHHHHHHHHHHHHHHHHHHHHHHHHHHHHHHHHHHHHHHHHHHHHHHHHHHHHHHHHHHHHHHHHHHHHHHHHHHHHHHHHHHHHHHHHHHHHHHHHHHHHHHHHHHHHHHHHHHHHHHHHHHHHHHHHHHHHHHHHHHHHHHHHHHHHHHHHHHHHHHHHHHHHHHHHHHHHHHHHHHHHHHHHHHHHHHHHHHHHHHHHHHHHHHHHHHHHHHHHHHHHHHHHHHHHHHHHHHHHHHHHHHHHHHHHHHHHHHHHHHHHHHHHHHHHHHHHHHHHHHHHHHHHHHHHHHHHHHHHHHHHHHHHHHHHHHHHHHHHHHHHHHHHHHHHHHHHHHHHHHHHHHHHHHHHHHHHHHHHHHHHHHHHHHHHHHHHHHHHHHHHHHHHHHHHHHHHHHHHHHHHHHHHHHHHHHHHHHHHH\t1\t0\t0\t0\nacct\t2\t0\tH\t10000000\t0\t0\t0\nend\n" gives "refused\t5\t5\n")
+    -- 513 bytes
+    ∷ ("period\t2\t1\nmember\t1\t0\nmember\t2\t0\nday\t3\t2\nacct\t1\t0\tHHHHHHHHHHHHHHHHHHHHHHHHHHHHHHHHHHHHHHHHHHHHHHHHHHHHHHHHHHHHHHHHHHHHHHHHHHHHHHHHHHHHHHHHHHHHHHHHHHHHHHHHHHHHHHHHHHHHHHHHHHHHHHHHHHHHHHHHHHHHHHHHHHHHHHHHHHHHHHHHHHHHHHHHHHHHHHHHHHHHHHHHHHHHHHHHHHHHHHHHHHHHHHHHHHHHHHHHHHHHHHHHHHHHHHHHHHHHHHHHHHHHHHHHHHHHHHHHHHHHHHHHHHHHHHHHHHHHHHHHHHHHHHHHHHHHHHHHHHHHHHHHHHHHHHHHHHHHHHHHHHHHHHHHHHHHHHHHHHHHHHHHHHHHHHHHHHHHHHHHHHHHHHHHHHHHHHHHHHHHHHHHHHHHHHHHHHHHHHHHHHHHHHHHHHHHHHHHHHHHHHHHHHHHHHHHHHHHHHHHHHHHHHHHHHHHHHHHHHHHHHHHHHHHHHHHHHHHHHHHHHHHHHHHHHHHHHHH\t1\t0\t0\t0\nacct\t2\t0\tH\t10000000\t0\t0\t0\nend\n" gives "refused\t9\t5\n")
+    -- a kind that is no letter of a kind
+    ∷ ("period\t1\t1\nmember\t1\t0\nday\t3\t2\nacct\t1\t0\tH\t10\t0\t0\t0\nacct\t1\t1\tX\t10\t0\t0\t0\nend\n" gives "refused\t5\t5\n")
+    -- a kind of byte 127
+    ∷ ("period\t1\t1\nmember\t1\t0\nday\t3\t2\nacct\t1\t0\tH\t10\t0\t0\t0\nacct\t1\t1\t\u{7f}\t10\t0\t0\t0\nend\n" gives "refused\t5\t5\n")
+    -- a kind of byte 128
+    ∷ ("period\t1\t1\nmember\t1\t0\nday\t3\t2\nacct\t1\t0\tH\t10\t0\t0\t0\nacct\t1\t1\t\u{80}\t10\t0\t0\t0\nend\n" gives "refused\t9\t5\n")
+    -- n and k at their limits, cut
+    ∷ ("period\t32\t16\n" gives "refused\t9\t2\n")
+    -- count at its limit, cut
+    ∷ ("period\t1\t1\nmember\t1\t0\nday\t3\t256\n" gives "refused\t9\t4\n")
+    -- a first word that goes on
+    ∷ ("period\t1\t1\nmember\t1\t0\nday\t3\t1\nacctx\t1\t0\tH\t10\t0\t0\t0\nend\n" gives "refused\t9\t4\n")
+    -- valid 0
+    ∷ ("period\t4\t3\nmember\t1\t26\nmember\t2\t26\nmember\t3\t26\nmember\t4\t26\nday\t13\t14\nacct\t1\t0\tH\t-262899683022\t0\t0\t-668629069849\t567526038730\t-863218408590\nacct\t2\t0\tH\t-346605624023\t616466234476\t0\t501347962222\t-963071858498\t-653111635317\nacct\t2\t1\tR\t-432304380642\t188938951965\t0\t-857350163596\t144632401607\t-648863850673\nacct\t2\t2\tR\t-432304380642\t188938951965\t0\t-857350163596\t144632401607\t-648863850673\nacct\t2\t4\tR\t514477493977\t605846778877\t0\t-110576346448\t-278584670675\t-168457334601\nacct\t2\t5\tA\t645405390379\t789754674057\t578186029328\t1000000000000\t218111238757\t-144349283678\nacct\t2\t6\tR\t645405390379\t789754674057\t578186029328\t1000000000000\t218111238757\t-144349283678\nacct\t2\t7\tU\t-515256285254\t484743714748\t484743714748\t397475177865\t-1000000000000\t-1000000000000\nacct\t2\t8\tR\t165165596453\t658362864412\t0\t798964899690\t456741760665\t1000000000000\nacct\t2\t9\tR\t165165596453\t658362864412\t0\t798964899690\t456741760665\t1000000000000\nacct\t2\t10\tA\t476103379618\t718676592968\t0\t571407212819\t-242573213351\t80482904064\nacct\t2\t11\tU\t905277672245\t0\t0\t1000000000000\t279297138232\t1000000000000\nacct\t3\t0\tH\t79063012331\t847770741368\t0\t-701352662683\t136668072040\t-768707729034\nacct\t4\t0\tH\t992053526993\t271218593446\t0\t720834933547\t1000000000000\t861118431922\nend\n" gives "day\t13\t3752491681240\t2191145079813\ndaily\t1\t600318725568\t159978695908\t35053653241232\t38559018565355\t77118037130710\ndaily\t2\t3152172955672\t840021304093\t184060854740068\t202466940214075\t404933880428150\ndaily\t3\t0\t0\t0\t0\t0\ndaily\t4\t0\t0\t0\t0\t0\nfund\t1\t2191145079813\t2410359587798\ncontribution\t1\t385590185656\t385590185656\t771180371312\ncontribution\t2\t2024669402142\t2024669402142\t4049338804284\ncontribution\t3\t0\t50000000\t100000000\ncontribution\t4\t0\t50000000\t100000000\n")
+    -- valid 1
+    ∷ ("period\t3\t3\nmember\t1\t1\nmember\t2\t26\nmember\t3\t8\nday\t7\t12\nacct\t1\t0\tH\t-91027911\t0\t0\t-5485766507\t-980649862\t-91027910\nacct\t2\t0\tH\t182943247133\t986453991067\t254671763214\t182943247131\t-803510743935\t183106387534\nacct\t3\t0\tH\t9577856221\t1000000000000\t1000000000000\t-599061355854\t9647489845\t-990422143779\nacct\t3\t2\tR\t-51\t0\t0\t-851950650\t49459260\t-808376403\nacct\t3\t3\tR\t-913313674\t0\t0\t666621999409\t-709128570379\t-913313674\nacct\t3\t4\tR\t-913313674\t0\t0\t666621999409\t-709128570379\t-913313674\nacct\t3\t5\tU\t180737654437\t0\t0\t180737646860\t180737654949\t34077986732\nacct\t3\t6\tU\t-4676599394\t0\t0\t-3925448573\t-4814744214\t-1000000000000\nacct\t3\t7\tR\t-150645797\t13730162\t0\t-73858030\t-164375957\t-150125420\nacct\t3\t8\tA\t-766100964292\t0\t0\t-286797764838\t-1000000000000\t-765697723105\nacct\t3\t9\tR\t959433879\t1000000000000\t0\t-999040566121\t-25097760663\t959433888\nacct\t3\t10\tR\t-94240\t515266590227\t18577041007\t-515266684466\t-93946\t-94220\nend\n" gives "day\t7\t4052379119240\t2713378790643\ndaily\t1\t5394738596\t1331252195\t361219146993\t397341061693\t794682123385\ndaily\t2\t254671763215\t62844999375\t17052228840149\t18757451724164\t37514903448329\ndaily\t3\t3792312617429\t935823748431\t253924431077157\t279316874184873\t558633748369746\nfund\t1\t2713378790643\t2984716669712\ncontribution\t1\t3973410619\t3973410619\t7946821238\ncontribution\t2\t187574517243\t187574517243\t375149034486\ncontribution\t3\t2793168741850\t2793168741850\t5586337483700\n")
+    -- valid 2
+    ∷ ("period\t1\t8\nmember\t1\t16\nday\t27\t1\nacct\t1\t0\tH\t-3696\t4\t4\t-3697\t-3693\t-3690\t-347857106775\t-3697\t-6736\t-3698\t-137704463294\nend\n" gives "day\t27\t347857103079\t347857103079\ndaily\t1\t347857103079\t1000000000000\t34785710307900\t38264281338690\t76528562677380\nfund\t1\t347857103079\t382642813387\ncontribution\t1\t382642813387\t382642813387\t765285626774\n")
+    -- valid 3
+    ∷ ("period\t3\t2\nmember\t1\t0\nmember\t2\t0\nmember\t3\t0\nday\t17\t7\nacct\t1\t0\tH\t-429819688079\t920325752744\t0\t276879373589\t-53050968671\nacct\t1\t1\tA\t330510334149\t667835026230\t421378311189\t171425628615\t-529496882722\nacct\t1\t3\tR\t-984170900066\t15829099935\t0\t-1000000000000\t-1000000000000\nacct\t2\t0\tH\t-51920521793\t866757264405\t0\t-918677786199\t-809520553084\nacct\t2\t3149\tR\t-177683625256\t0\t0\t194329398844\t-170390318670\nacct\t3\t0\tH\t-75848260336\t924151739663\t0\t-1000000000000\t168639031732\nacct\t3\t1\tR\t770964685646\t0\t0\t28981105392\t-77498434271\nend\n" gives "day\t17\t848463119920\t741983580255\ndaily\t1\t1\t2\t87\t96\t192\ndaily\t2\t1\t2\t87\t96\t192\ndaily\t3\t848463119918\t999999999998\t74198358025325\t81618193827858\t163236387655715\nfund\t1\t741983580255\t816281938279\ncontribution\t1\t2\t50000000\t100000000\ncontribution\t2\t2\t50000000\t100000000\ncontribution\t3\t816181938279\t816181938279\t1632363876558\n")
+    -- valid 4
+    ∷ ("period\t4\t3\nmember\t1\t11\nmember\t2\t11\nmember\t3\t11\nmember\t4\t11\nday\t30\t5\nacct\t1\t0\tH\t999999999999\t999999999999\t999999999999\t0\t-1\t0\nacct\t2\t0\tH\t-1000000000000\t1\t0\t-1000000000000\t-1000000000000\t-1\nacct\t3\t0\tH\t-1\t999999999999\t0\t-1\t-1\t0\nacct\t4\t0\tH\t0\t999999999999\t0\t0\t999999999999\t0\nacct\t4\t15563\tA\t-1\t0\t0\t-1\t-1\t999999999998\nend\n" gives "day\t30\t1000000000000\t1000000000000\ndaily\t1\t1000000000000\t1000000000000\t100000000000000\t110000000000000\t220000000000000\ndaily\t2\t0\t0\t0\t0\t0\ndaily\t3\t0\t0\t0\t0\t0\ndaily\t4\t0\t0\t0\t0\t0\nfund\t1\t1000000000000\t1100150000000\ncontribution\t1\t1100000000000\t1100000000000\t2200000000000\ncontribution\t2\t0\t50000000\t100000000\ncontribution\t3\t0\t50000000\t100000000\ncontribution\t4\t0\t50000000\t100000000\n")
+    -- valid 6
+    ∷ ("period\t4\t2\nmember\t1\t30\nmember\t2\t5\nmember\t3\t12\nmember\t4\t30\nday\t11\t9\nacct\t1\t0\tH\t1000000000000\t1\t1\t1\t1000000000000\nacct\t1\t9194\tU\t0\t1\t1\t0\t0\nacct\t1\t10449\tU\t0\t0\t0\t0\t999999999999\nacct\t1\t27350\tA\t0\t0\t0\t-999999999999\t-999999999999\nacct\t1\t32255\tA\t0\t0\t0\t999999999999\t1\nacct\t1\t46913\tR\t1000000000000\t0\t0\t999999999999\t999999999999\nacct\t2\t0\tH\t0\t2\t0\t-1\t-1\nacct\t3\t0\tH\t1000000000000\t1\t0\t1000000000000\t1000000000000\nacct\t4\t0\tH\t-1\t0\t0\t-1\t-2\nend\n" gives "day\t11\t2499999999999\t2499999999998\ndaily\t1\t2499999999998\t1000000000000\t249999999999700\t274999999999670\t549999999999340\ndaily\t2\t0\t0\t0\t0\t0\ndaily\t3\t0\t0\t0\t0\t0\ndaily\t4\t1\t1\t100\t110\t220\nfund\t1\t2499999999998\t2750149999998\ncontribution\t1\t2749999999998\t2749999999998\t5499999999996\ncontribution\t2\t0\t50000000\t100000000\ncontribution\t3\t0\t50000000\t100000000\ncontribution\t4\t3\t50000000\t100000000\n")
+    -- valid 7
+    ∷ ("period\t2\t1\nmember\t1\t0\nmember\t2\t0\nday\t6\t14\nacct\t1\t0\tH\t100\t513969\t0\t1703\nacct\t1\t1\tR\t0\t0\t0\t9336\nacct\t1\t2\tR\t6\t3\t3\t-1567\nacct\t1\t4\tR\t31\t0\t0\t-188\nacct\t1\t5\tR\t-93534\t7756\t0\t-94222\nacct\t1\t6\tU\t60137\t515\t0\t59622\nacct\t1\t7\tA\t-8534\t59\t0\t-8593\nacct\t1\t8\tR\t22\t0\t0\t-957083\nacct\t1\t9\tA\t22\t0\t0\t-957083\nacct\t1\t10\tU\t-46\t76355\t0\t-76401\nacct\t1\t11\tR\t-23730\t51902\t51902\t-75632\nacct\t1\t12\tR\t0\t0\t0\t10\nacct\t1\t13\tA\t-7421\t1557\t0\t-8979\nacct\t2\t0\tH\t0\t982\t190\t9356\nday\t14\t13\nacct\t1\t0\tH\t953254430163\t0\t0\t1000000000000\nacct\t1\t1\tR\t418510812807\t749350838531\t749350838531\t196659524676\nacct\t1\t2\tR\t947064566301\t85405521710\t12238610127\t861659044590\nacct\t1\t3\tR\t373509261788\t974962331456\t0\t-601453069668\nacct\t1\t5\tU\t319774531444\t3\t0\t1000000000000\nacct\t2\t0\tH\t822961047001\t0\t0\t837148318357\nacct\t2\t1\tA\t708269794456\t0\t0\t1000000000000\nacct\t2\t3\tR\t-13375383878\t226672834982\t159037531670\t-240048218861\nacct\t2\t4\tR\t-13375383878\t226672834982\t159037531670\t-240048218861\nacct\t2\t5\tA\t663738635235\t914481008604\t518146117068\t-250742373370\nacct\t2\t6\tR\t-731694166136\t977905555724\t620800860695\t-742324093881\nacct\t2\t7\tR\t-116995082496\t842373208735\t842373208735\t-959368291232\nacct\t2\t8\tU\t538381967980\t0\t0\t-331902167388\nend\n" gives "day\t6\t1452144\t1452144\ndaily\t1\t1452144\t1000000000000\t145214400\t159735840\t319471680\ndaily\t2\t0\t0\t0\t0\t0\nday\t14\t2896959412954\t2662869514695\ndaily\t1\t234089898259\t80805377256\t21517417571837\t23669159329021\t47338318658041\ndaily\t2\t2662869514695\t919194622745\t244769533897663\t269246487287429\t538492974574859\nfund\t2\t2662869514695\t2929156466167\ncontribution\t1\t1582924029728\t1582924029728\t3165848059456\ncontribution\t2\t1346232436439\t1346232436439\t2692464872878\n")
+    ∷ []
+
+pub worked-texts : map (λ w. reportOf (bytes (w .text))) texts ≡ map (λ w. bytes (w .report)) texts
+unfolding texts computed reads
+worked-texts = refl
+
+-- The 65,536 bytes of a day: where 65,514 are used, a line of 21 bytes and its LF fills them, and one of 22 is bad; a day starts with none.
+abbrev begun : DayInput
+begun = record { number = 3; headings = []; npvs = []; margins = []; extras = [] }
+
+pub bytes-filled :
+    readLine (account start begun 4 2 65514) 5 (bytes "acct\t1\t0\tH\t100000\t0\t0")
+    ≡ goesOn [] (account start (withAccount begun (record { member = 1; number = 0; kind = 0; npvs = pos 100000 ∷ []; margin = 0; extra = 0 })) 4 2 65536)
+unfolding computed reads
+bytes-filled = refl
+
+pub bytes-passed : readLine (account start begun 4 2 65514) 5 (bytes "acct\t1\t0\tH\t1000000\t0\t0") ≡ bad 5
+unfolding computed reads
+bytes-passed = refl
+
+pub bytes-at-first : (g : Register) → readDay g 4 (some (3 ∷ 2 ∷ [])) ≡ goesOn [] (account g begun 4 2 0)
+unfolding computed reads
+bytes-at-first g = refl
