@@ -1,11 +1,11 @@
 // One list of calls on a period, from a fresh one on: each call gets the period that the one before returned. It shows every row of
-// document 01's refusal table that a call can meet, by each of its conditions, and each two rows that follow one another in an order of
-// precedence; among them accepted calls, whose figures show that a refused one left nothing behind; and four months, three of them opened
-// after a closing.
+// document 01's refusal table that a call can meet, by each of its conditions but more than 256 headings, which no array here holds, and
+// each two rows that follow one another in an order of precedence; among them accepted calls, whose figures show that a refused one left
+// nothing behind; and four months, three of them opened after a closing.
 //
 // A call prints its number and what it says: accepted with its figures, or refused with the row and, in rows 5 and 6, the index. A day and
-// a closing then print the buffer that they were lent, which was filled with 7. The stored output was worked out by a recalculation from
-// document 01, not taken from the program.
+// a closing then print the buffer that they were lent, which was filled with 7. The stored output was worked out from document 01, by a
+// recalculation and for calls 31 to 33 by hand, not taken from the program.
 use libc::STDOUT_FILENO;
 use period::Outcome;
 use period::Period;

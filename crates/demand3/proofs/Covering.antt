@@ -29,21 +29,21 @@ some-members o (d ∷ days) c h = by (o .n) refl
     by zero e = absurd (omega (arith, rw e at (c .0)))
     by (suc n) e = omega arith
 
+pub three-wide : (r : ℕ) → length (three r) ≡ 3
+unfolding three
+three-wide r = refl
+
 -- the numbers that stand in the buffer
 module _ (o : Opening) (days : List KeptDay) where
-  three-wide : (m : ℕ) → length (three (raw o days m)) ≡ 3
-  unfolding three
-  three-wide m = refl
-
   pub contributions-long : length (contributions o days) ≡ 3 * o .n
   unfolding contributions
-  contributions-long = rows-length 3 (λ m. three (raw o days m)) three-wide (members (o .n)) ∙ ap (λ (x : ℕ). 3 * x) (range-length 1 (o .n))
+  contributions-long = rows-length 3 (λ m. three (raw o days m)) (λ m. three-wide (raw o days m)) (members (o .n)) ∙ ap (λ (x : ℕ). 3 * x) (range-length 1 (o .n))
 
   module _ (m : ℕ) (low : 1 ≤ m) (high : m ≤ o .n) where
     number-at : (j : ℕ) → j < 3 → getD (contributions o days) (3 * (m - 1) + j) 0 ≡ getD (three (raw o days m)) j 0
     unfolding contributions
     number-at j h =
-        rows-at 3 (λ m. three (raw o days m)) three-wide (members (o .n)) (m - 1) j 0 0 (omega (arith, range-length 1 (o .n))) h
+        rows-at 3 (λ m. three (raw o days m)) (λ m. three-wide (raw o days m)) (members (o .n)) (m - 1) j 0 0 (omega (arith, range-length 1 (o .n))) h
         ∙ ap (λ (x : ℕ). getD (three (raw o days x)) j 0) (range-at 1 (o .n) (m - 1) 0 (omega arith) ∙ omega arith)
 
     pub raw-is : rawIn (contributions o days) m ≡ raw o days m

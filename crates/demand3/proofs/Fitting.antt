@@ -22,7 +22,7 @@ use Rattle.methodology.specs.Day.{total, maxEul, scale, share, value, reserve, 
 use Rattle.methodology.specs.Contribution.{charge, funded, unfunded, three}
 use Rattle.methodology.specs.Refusals.{row_when_else_, row_at_when_else_, isOpen, badOpening, openingRefusal, badLengths, badDayNumber, firstBadHeading, lastMissing, badAmount, dayRefusal, closingRefusal}
 use Rattle.methodology.specs.Register.{ifAccepted, accepted, answerBy}
-use Rattle.methodology.proofs.Passed.{passed}
+use Rattle.methodology.proofs.Passed.{passed, either}
 use Rattle.quotient.specs.Ranges.{greatestTotal}
 use Rattle.quotient.proofs.Bounds.{share-le, cents-le, raw-le}
 use Rattle.validation.proofs.Headings.{bad-heading-le}
@@ -39,6 +39,7 @@ use Rattle.period.proofs.Ranges.{ranged}
 use Rattle.period.proofs.Sizing.{accounts-long, room-long, total-few}
 use Rattle.period.proofs.Closings.{Closable, closable, in-range}
 use Rattle.period.proofs.Reach.{passes, sized-in-range}
+use Rattle.demand3.proofs.Covering.{three-wide}
 use Rattle.demand3.specs.Runs.{Asked, Made, argumentsOf, Meets}
 use Rattle.demand3.specs.Demand3.{Fits64, numbersIn, Narrow, Fits, HasRun}
 
@@ -120,10 +121,6 @@ unfolding dailies
 dailies-long o accts = rows-length 5 _ (λ m. five-wide _ _ _) (members (o .n)) ∙ ap (λ (x : ℕ). 5 * x) (range-length 1 (o .n))
 
 -- ---- a closing that is accepted
-
-three-wide : (r : ℕ) → length (three r) ≡ 3
-unfolding three
-three-wide r = refl
 
 three-fits : (r : ℕ) → r ≤ 2 * greatestTotal → Every Fits64 (three r)
 unfolding three funded unfunded
@@ -231,12 +228,6 @@ answer-fits : (x : Refusal) (figures : List ℕ) → RowFits x → (x ≡ Clear 
 answer-fits Clear figures h f = f refl
 answer-fits (Row number) figures h f = (h, tt)
 answer-fits (RowAt number index) figures (h, i) f = (h, (i, tt))
-
--- either of two
-either : {A : Type 0} (P : A → Type 0) (x : Refusal) (a b : A) → (x ≡ Clear → P a) → P b → P (ifAccepted x a b)
-either P Clear a b f h = f refl
-either P (Row number) a b f h = h
-either P (RowAt number index) a b f h = h
 
 pub fits : {p : Period} → Narrow p → (c : Made) → Meets p c → Fits c
 unfolding openingRow openingRefusal

@@ -49,7 +49,7 @@ take-other (y ∷ ys) d (suc i) (suc j) n = take-other ys d i j (λ e. n (ap suc
 
 -- one column
 module _ (f : Heading → ℕ) where
-  column-length : (ys : List Heading) → length (column f ys) ≡ 256
+  pub column-length : (ys : List Heading) → length (column f ys) ≡ 256
   unfolding column
   column-length ys = table-length (λ i. f (getD ys i nobody)) 0 256
 

@@ -8,16 +8,17 @@ use native.Mathlib.Nat.{zero-add}
 use native.Mathlib.Omega.{arith}
 use lib.Dec.{ltb}
 use lib.IntN.{ℤ}
-use lib.ListN.{length, getD, take, drop, length-append, List·getD-append}
+use lib.ListN.{length, getD, take, drop, List·getD-append}
 use lib.Seq.{getD-drop, drop-append-seam, length-take-le, getD-take, take-all}
 use borrow.Author.Tests.{lt-ltb, le-ltb, ltb-true, ltb-false}
 use Rattle.numbers.specs.Lists.{range}
-use Rattle.numbers.proofs.Lists.{mem-range, map-eq, table-at, table-length, own-table, part-length, part-at}
+use Rattle.numbers.proofs.Lists.{mem-range, map-eq, table-at, own-table, part-length, part-at}
 use Rattle.methodology.specs.declared.Heading.{Heading}
 use Rattle.methodology.specs.declared.Refusal.the-variants.{Row}
 use Rattle.methodology.specs.Account.{DayInput, nobody}
 use Rattle.methodology.specs.Refusals.{row_when_else_, isOpen, outside, badLengths, dayRefusal}
 use Rattle.headings.specs.Columns.{column, columns}
+use Rattle.headings.proofs.Filled.{column-length, columns-length}
 use Rattle.validation.specs.Slices.{headings, plainDay}
 use Rattle.validation.proofs.Headings.{headings-length}
 use Rattle.period.specs.declared.Period.{Period}
@@ -58,10 +59,6 @@ twice-256 i = omega arith
 
 -- the columns, place by place
 module _ (hs : List Heading) where
-  column-long : (f : Heading → ℕ) → length (column f hs) ≡ 256
-  unfolding column
-  column-long f = table-length _ 0 256
-
   column-at : (f : Heading → ℕ) (i : ℕ) → i < 256 → getD (column f hs) i 0 ≡ f (getD hs i nobody)
   unfolding column
   column-at f i h = table-at (λ i. f (getD hs i nobody)) 0 256 i 0 h ∙ ap (λ (j : ℕ). f (getD hs j nobody)) (zero-add i)
@@ -74,28 +71,22 @@ module _ (hs : List Heading) where
   columns-are = append-assoc (column (λ h. h .member) hs) (column (λ h. h .number) hs) (column (λ h. h .kind) hs)
 
   member-at : (i : ℕ) → i < 256 → getD (columns hs) i 0 ≡ getD hs i nobody .member
-  member-at i h = ap (λ (l : List ℕ). getD l i 0) columns-are ∙ List·getD-append (column (λ h. h .member) hs) after-members 0 i (omega (arith, column-long (λ h. h .member))) ∙ column-at (λ h. h .member) i h
+  member-at i h = ap (λ (l : List ℕ). getD l i 0) columns-are ∙ List·getD-append (column (λ h. h .member) hs) after-members 0 i (omega (arith, column-length (λ h. h .member) hs)) ∙ column-at (λ h. h .member) i h
 
   number-at : (i : ℕ) → i < 256 → getD (columns hs) (256 + i) 0 ≡ getD hs i nobody .number
   number-at i h =
       ap (λ (l : List ℕ). getD l (256 + i) 0) columns-are
-      ∙ past (column (λ h. h .member) hs) after-members 256 i (column-long (λ h. h .member))
-      ∙ List·getD-append (column (λ h. h .number) hs) (column (λ h. h .kind) hs) 0 i (omega (arith, column-long (λ h. h .number)))
+      ∙ past (column (λ h. h .member) hs) after-members 256 i (column-length (λ h. h .member) hs)
+      ∙ List·getD-append (column (λ h. h .number) hs) (column (λ h. h .kind) hs) 0 i (omega (arith, column-length (λ h. h .number) hs))
       ∙ column-at (λ h. h .number) i h
 
   kind-at : (i : ℕ) → i < 256 → getD (columns hs) (512 + i) 0 ≡ getD hs i nobody .kind
   kind-at i h =
       ap (λ (j : ℕ). getD (columns hs) j 0) (twice-256 i)
       ∙ ap (λ (l : List ℕ). getD l (256 + (256 + i)) 0) columns-are
-      ∙ past (column (λ h. h .member) hs) after-members 256 (256 + i) (column-long (λ h. h .member))
-      ∙ past (column (λ h. h .number) hs) (column (λ h. h .kind) hs) 256 i (column-long (λ h. h .number))
+      ∙ past (column (λ h. h .member) hs) after-members 256 (256 + i) (column-length (λ h. h .member) hs)
+      ∙ past (column (λ h. h .number) hs) (column (λ h. h .kind) hs) 256 i (column-length (λ h. h .number) hs)
       ∙ column-at (λ h. h .kind) i h
-
-  pub columns-long : length (columns hs) ≡ 768
-  columns-long =
-      ap length columns-are
-      ∙ length-append (column (λ h. h .member) hs) after-members
-      ∙ omega (arith, length-append (column (λ h. h .number) hs) (column (λ h. h .kind) hs), column-long (λ h. h .member), column-long (λ h. h .number), column-long (λ h. h .kind))
 
   -- no more than 256 headings come back
   came-back : (n i : ℕ) → n ≤ 256 → i < n
@@ -109,7 +100,7 @@ module _ (hs : List Heading) where
   headings-back : (n : ℕ) → length hs ≡ n → n ≤ 256 → headings (take n (columns hs)) (take n (drop 256 (columns hs))) (take n (drop 512 (columns hs))) ≡ hs
   unfolding headings
   headings-back n long few =
-      let back : length (take n (columns hs)) ≡ n = length-take-le n (columns hs) (omega (arith, columns-long)) in
+      let back : length (take n (columns hs)) ≡ n = length-take-le n (columns hs) (omega (arith, columns-length hs)) in
       ap (λ (m : ℕ). map (λ i. record { member = getD (take n (columns hs)) i 0; number = getD (take n (drop 256 (columns hs))) i 0; kind = getD (take n (drop 512 (columns hs))) i 0 }) (range 0 m)) (back ∙ sym long)
       ∙ map-eq _ (λ i. getD hs i nobody) (range 0 (length hs)) (λ i m. came-back n i few (omega (arith, mem-range 0 (length hs) m .1)))
       ∙ sym (own-table hs nobody)

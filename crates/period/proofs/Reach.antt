@@ -11,16 +11,14 @@ use borrow.Author.Tests.{le-leb, le-ltb, ltb-false, ltb-true, leb-false, eqb-fal
 use Rattle.numbers.specs.Lists.{range, any, firstWhere}
 use Rattle.numbers.proofs.Tests.{neither}
 use Rattle.numbers.proofs.Lists.{table-take, own-table, any-map, none-any, range-mem, first-le}
-use Rattle.methodology.specs.declared.Refusal.{Refusal}
-use Rattle.methodology.specs.declared.Refusal.the-variants.{Clear, Row, RowAt}
+use Rattle.methodology.specs.declared.Refusal.the-variants.{Clear}
 use Rattle.methodology.specs.declared.Status.{Status}
 use Rattle.methodology.specs.declared.Status.the-variants.{Fresh, Open, Closed}
 use Rattle.methodology.specs.Account.{Opening, DayInput, nobody}
 use Rattle.methodology.specs.Member.{loss}
 use Rattle.methodology.specs.Day.{total, maxEul, scale, share}
 use Rattle.methodology.specs.Refusals.{isOpen, outside, badOpening, openingRefusal, badLengths, badDayNumber, firstBadHeading, lastMissing, badAmount, dayRefusal}
-use Rattle.methodology.specs.Register.{ifAccepted}
-use Rattle.methodology.proofs.Passed.{passed, passed-at}
+use Rattle.methodology.proofs.Passed.{passed, passed-at, either}
 use Rattle.quotient.specs.Ranges.{greatestTotal}
 use Rattle.quotient.proofs.Bounds.{share-le}
 use Rattle.exposure.proofs.MaxTotal.{loss-le-total, max-le-total}
@@ -120,12 +118,6 @@ pub data Reached : Period → Type 0 where
 abbrev Sound : Period → Type 0
 Sound p = isOpen (p .status) ≡ true → inRange p ≡ true
 
--- a refused call leaves the period, an accepted one keeps it sound
-sound-by : (x : Refusal) (p after : Period) → Sound p → (x ≡ Clear → Sound after) → Sound (ifAccepted x after p)
-sound-by Clear p after s f = f refl
-sound-by (Row number) p after s f = s
-sound-by (RowAt number index) p after s f = s
-
 opening-sound : (p : Period) (o : Opening) → openingRow p o ≡ Clear → Sound (openedPeriod o)
 unfolding openingRow openingRefusal
 opening-sound p o e = λ q. opened-in-range o (passed 1 (badOpening o) Clear (passed 2 (isOpen (statusOf p)) _ e .1) .0)
@@ -138,9 +130,9 @@ not-open p e q = absurd (true≢false (sym q ∙ e))
 
 sound : {p : Period} → Reached p → Sound p
 sound fresh = not-open freshPeriod refl
-sound (by-opening {p} {o} w m) = subst Sound (sym (m .period)) (sound-by _ p (openedPeriod o) (sound w) (opening-sound p o))
-sound (by-day {p} {d} {before} w m) = subst Sound (sym (m .period)) (sound-by _ p (sizedPeriod p d) (sound w) (day-sound p d (length before)))
-sound (by-closing {p} {before} w m) = subst Sound (sym (m .period)) (sound-by (closingRow p (length before)) p (closedPeriod p) (sound w) (λ e. not-open (closedPeriod p) refl))
+sound (by-opening {p} {o} w m) = subst Sound (sym (m .period)) (either Sound (openingRow p o) (openedPeriod o) p (opening-sound p o) (sound w))
+sound (by-day {p} {d} {before} w m) = subst Sound (sym (m .period)) (either Sound (dayRow p d (length before)) (sizedPeriod p d) p (day-sound p d (length before)) (sound w))
+sound (by-closing {p} {before} w m) = subst Sound (sym (m .period)) (either Sound (closingRow p (length before)) (closedPeriod p) p (λ e. not-open (closedPeriod p) refl) (sound w))
 
 -- the theorem: on such a period the status that counts is open just when its status is
 pub status-counts : {p : Period} → Reached p → isOpen (statusOf p) ≡ isOpen (p .status)
