@@ -10,7 +10,6 @@ use libc::STDOUT_FILENO;
 use period::Outcome;
 use period::Period;
 use period::Reply;
-use printing::packed;
 use printing::put_rows;
 ghost use Prim.Native.Nat.{_≤_, _<_};
 
@@ -78,7 +77,7 @@ fn day(
     extras: &[u64],
     out: &mut [u64],
 ) -> Period {
-    let headings = packed(members, numbers, kinds);
+    let headings = headings::pack(members, numbers, kinds);
     let reply = period.day_of(number, headings, members.len(), npvs, margins, extras, out);
     let next = step(call, reply);
     put_rows(out, 5);

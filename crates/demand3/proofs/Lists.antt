@@ -16,7 +16,8 @@ use Rattle.methodology.proofs.Passed.{passed}
 use Rattle.period.specs.declared.Period.{Period}
 use Rattle.period.specs.declared.Reply.{Reply}
 use Rattle.period.specs.Reading.{answerOf}
-use Rattle.period.proofs.Simulation.{Good, Follows, opening-follows, day-follows, closing-follows}
+use Rattle.period.specs.Follows.{Good, Follows}
+use Rattle.period.proofs.Simulation.{opening-follows, day-follows, closing-follows}
 use Rattle.demand3.specs.Runs.{Made, replyOf, callOf, Meets, Run}
 use Rattle.demand3.specs.Demand3.{Agrees, Covers, AtClosing, Holds, registerAfter}
 use Rattle.demand3.proofs.Covering.{covers}

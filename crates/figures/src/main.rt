@@ -3,7 +3,6 @@
 // member's raw, funded and unfunded contribution.
 use period::Outcome;
 use period::Period;
-use printing::packed;
 use printing::put_rows;
 
 // A period that is open, with these groups and k scenarios.
@@ -26,7 +25,7 @@ fn size(
     extras: &[u64],
     out: &mut [u64],
 ) -> Period {
-    let headings = packed(members, numbers, kinds);
+    let headings = headings::pack(members, numbers, kinds);
     let reply = period.day_of(number, headings, members.len(), npvs, margins, extras, out);
     let outcome = reply.outcome;
     if let Outcome::Sized(total, top) = outcome {

@@ -1,8 +1,9 @@
-// A day's headings as columns of numbers.
+// A day's headings as columns of numbers, and back.
 use methodology::Heading;
 ghost use mathlib.Core.Path.{_≡_};
 ghost use Prim.Native.Nat.{min};
-ghost use Rattle.headings.specs.Columns.{columns};
+ghost use lib.ListN.{getD};
+ghost use Rattle.headings.specs.Columns.{columns, packed};
 
 // How many of the headings find a place in a column.
 pub fn within(count: usize) -> usize
@@ -23,6 +24,36 @@ pub fn unpack(headings: &[Heading]) -> [u64; 768]
         all[i] = h.member;
         all[i + 256] = h.number;
         all[i + 512] = h.kind;
+        i += 1;
+    }
+    all
+}
+
+// A number of a column, or 0 past its end.
+fn at(numbers: &[u64], i: usize) -> u64
+    ensures { λ r. ⌜ r ≡ getD (now (numbers .entry)) i 0 ⌝ }
+{
+    if i < numbers.len() { numbers[i] } else { 0 }
+}
+
+// The 256 headings of three columns: members, account numbers, kinds. Past the end of a column stands 0.
+pub fn pack(members: &[u64], numbers: &[u64], kinds: &[u64]) -> [Heading; 256]
+    ensures { λ r. ⌜ r ≡ packed (now (members .entry)) (now (numbers .entry)) (now (kinds .entry)) ⌝ }
+{
+    let nobody = Heading {
+        member: 0,
+        number: 0,
+        kind: 0,
+    };
+    let mut all = [nobody; 256];
+    let mut i: usize = 0;
+    while i < 256 {
+        let heading = Heading {
+            member: at(members, i),
+            number: at(numbers, i),
+            kind: at(kinds, i),
+        };
+        all[i] = heading;
         i += 1;
     }
     all

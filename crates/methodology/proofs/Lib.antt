@@ -3,3 +3,7 @@ pub mod Figures
 pub mod WorkedCalls
 pub mod Passed
 pub mod WorkedTexts
+pub mod Splits
+pub mod Enough
+pub mod Cut
+pub mod Short

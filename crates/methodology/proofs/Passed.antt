@@ -1,11 +1,14 @@
--- A refusal table that lets a call pass: none of its rows held; and what is kept by an accepted call and by a refused one.
+-- A refusal table that lets a call pass: none of its rows held; and what holds of one of two, as a call is accepted or a test holds.
 use mathlib.Core.Path.{_≡_, refl}
-use mathlib.Core.Bool.{Bool, true, false}
-use Prim.Native.Nat.{ℕ}
+use mathlib.Core.Bool.{Bool, true, false, cond}
+use Prim.Native.Nat.{ℕ, _≤_, _<_}
 use native.Mathlib.Omega.{arith}
+use lib.Dec.{ltb, leb}
+use borrow.Author.Tests.{ltb-false, leb-false}
+use Rattle.numbers.proofs.Tests.{neither}
 use Rattle.methodology.specs.declared.Refusal.{Refusal}
 use Rattle.methodology.specs.declared.Refusal.the-variants.{Clear, Row, RowAt}
-use Rattle.methodology.specs.Refusals.{row_when_else_, row_at_when_else_}
+use Rattle.methodology.specs.Refusals.{row_when_else_, row_at_when_else_, outside, badDayNumber}
 use Rattle.methodology.specs.Register.{ifAccepted}
 
 pub passed : (number : ℕ) (b : Bool) (rest : Refusal) → row number when b else rest ≡ Clear → (b ≡ false) × (rest ≡ Clear)
@@ -23,3 +26,15 @@ pub either : {A : Type 0} (P : A → Type 0) (x : Refusal) (a b : A) → (x ≡ 
 either P Clear a b f h = f refl
 either P (Row number) a b f h = h
 either P (RowAt number index) a b f h = h
+
+pub by-test : {A : Type 0} (P : A → Type 0) (b : Bool) (x y : A) → (b ≡ true → P x) → (b ≡ false → P y) → P (cond b x y)
+by-test P true x y f g = f refl
+by-test P false x y f g = g refl
+
+-- a day number that row 3 lets pass
+pub number-rises : (last number : ℕ) → badDayNumber last number ≡ false → (number ≤ 31) × (last < number)
+unfolding badDayNumber
+number-rises last number e =
+    let (a, b) = neither (outside 1 31 number) (leb number last) e in
+    let (_, high) = neither (ltb number 1) (ltb 31 number) a in
+    (ltb-false 31 number high, leb-false number last b)

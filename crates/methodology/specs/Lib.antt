@@ -6,3 +6,4 @@ pub mod Contribution
 pub mod Refusals
 pub mod Register
 pub mod Text
+pub mod Lines

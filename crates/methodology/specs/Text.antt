@@ -101,9 +101,9 @@ unfoldable pub badBytes : (line : List ℕ) → Bool
 badBytes line = ltb 512 (length line) || any (ltb 127) line
 
 -- "The first word is compared whole": the numbers after it, `count` of them
-unfoldable pub numbersAfter : (word : String) → (count : ℕ) → (line : List ℕ) → Option (List ℕ)
+unfoldable pub numbersAfter : (word : List ℕ) → (count : ℕ) → (line : List ℕ) → Option (List ℕ)
 numbersAfter word count line =
-    cond (same (getD (fields line) 0 []) (bytes word) && eqb (length (fields line)) (count + 1)) (everyField numberOf (drop 1 (fields line))) none
+    cond (same (getD (fields line) 0 []) word && eqb (length (fields line)) (count + 1)) (everyField numberOf (drop 1 (fields line))) none
 
 -- a line of an account; the NPVs are its base and its stresses
 pub record AccountLine : Type 0 where
@@ -141,26 +141,26 @@ abbrev pub decimal : ℕ → List ℕ
 decimal n = digits 19 n
 
 -- "with one tab between fields and LF after each line"
-unfoldable pub printed : (word : String) → List ℕ → List ℕ
-printed word numbers = bytes word ++ flatMap (λ x. tab ∷ decimal x) numbers ++ (LF ∷ [])
+unfoldable pub printed : (word : List ℕ) → List ℕ → List ℕ
+printed word numbers = word ++ flatMap (λ x. tab ∷ decimal x) numbers ++ (LF ∷ [])
 
 -- "A refusal prints `refused`, number, line (from 1)"
 abbrev pub refusedLine : (number line : ℕ) → List ℕ
-refusedLine number line = printed "refused" (number ∷ line ∷ [])
+refusedLine number line = printed (bytes "refused") (number ∷ line ∷ [])
 
 -- a line for each member with its numbers, `width` of them in its stretch of what a call wrote
-unfoldable pub rows : (word : String) → (width n : ℕ) → (out : List ℕ) → List ℕ
+unfoldable pub rows : (word : List ℕ) → (width n : ℕ) → (out : List ℕ) → List ℕ
 rows word width n out = flatMap (λ m. printed word (m ∷ take width (drop (width * (m - 1)) out))) (members n)
 
 -- an accepted day: "day number, T, Max EUL; member and its five numbers"
 unfoldable pub dayLines : (after : Register) → DayInput → (room : ℕ) → List ℕ
 dayLines g d room =
-    printed "day" (d .number ∷ returned g (Call.day d room)) ++ rows "daily" 5 (g .held .n) (written g (Call.day d room))
+    printed (bytes "day") (d .number ∷ returned g (Call.day d room)) ++ rows (bytes "daily") 5 (g .held .n) (written g (Call.day d room))
 
 -- an accepted closing: "D, M, total funded; member and its three numbers"
 unfoldable pub fundLines : (after : Register) → (room : ℕ) → List ℕ
 fundLines g room =
-    printed "fund" (returned g (Call.closing room)) ++ rows "contribution" 3 (g .held .n) (written g (Call.closing room))
+    printed (bytes "fund") (returned g (Call.closing room)) ++ rows (bytes "contribution") 3 (g .held .n) (written g (Call.closing room))
 
 -- ---- reading
 
@@ -245,9 +245,9 @@ readAccount g d at count used i (some a) =
 -- "A day's acct lines hold at most 65,536 bytes with their LFs; the line that passes this is bad by row 9." "Nothing follows end." The end
 -- line has one field, its word.
 unfoldable pub readLine : Expected → (number : ℕ) → (line : List ℕ) → Read
-readLine period i l = readPeriod i (numbersAfter "period" 2 l)
-readLine (member o) i l = readMember o i (numbersAfter "member" 2 l)
-readLine (day g) i l = cond (same l (bytes "end")) (goesOn [] (afterEnd g i)) (readDay g i (numbersAfter "day" 2 l))
+readLine period i l = readPeriod i (numbersAfter (bytes "period") 2 l)
+readLine (member o) i l = readMember o i (numbersAfter (bytes "member") 2 l)
+readLine (day g) i l = cond (same l (bytes "end")) (goesOn [] (afterEnd g i)) (readDay g i (numbersAfter (bytes "day") 2 l))
 readLine (account g d at count used) i l =
     let now = used + length l + 1 in
     cond (ltb 65536 now) (bad i) (readAccount g d at count now i (accountOf (g .held .k) l))

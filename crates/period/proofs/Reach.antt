@@ -1,13 +1,12 @@
 -- Every period that calls return is in range while it is open: the range test never decides, and row 2 reads as document 01 has it.
 -- By the last call: an opening sets every field, a day that the table lets pass keeps each within its limit, a refusal leaves all.
 use mathlib.Core.Path.{_≡_, refl, sym, subst, _∙_}
-use mathlib.Core.List.{List}
 use mathlib.Core.Bool.{Bool, true, false, not, _||_, cond, true≢false}
 use Prim.Native.Nat.{ℕ, _+_, _*_, _≤_, _<_, max}
 use native.Mathlib.Omega.{arith}
-use lib.Dec.{ltb, leb, eqb}
+use lib.Dec.{ltb, eqb}
 use lib.ListN.{length, getD}
-use borrow.Author.Tests.{le-leb, le-ltb, ltb-false, ltb-true, leb-false, eqb-false, not-false}
+use borrow.Author.Tests.{le-leb, le-ltb, ltb-false, ltb-true, eqb-false, not-false}
 use Rattle.numbers.specs.Lists.{range, any, firstWhere}
 use Rattle.numbers.proofs.Tests.{neither}
 use Rattle.numbers.proofs.Lists.{table-take, own-table, any-map, none-any, range-mem, first-le}
@@ -17,17 +16,17 @@ use Rattle.methodology.specs.declared.Status.the-variants.{Fresh, Open, Closed}
 use Rattle.methodology.specs.Account.{Opening, DayInput, nobody}
 use Rattle.methodology.specs.Member.{loss}
 use Rattle.methodology.specs.Day.{total, maxEul, scale, share}
-use Rattle.methodology.specs.Refusals.{isOpen, outside, badOpening, openingRefusal, badLengths, badDayNumber, firstBadHeading, lastMissing, badAmount, dayRefusal}
-use Rattle.methodology.proofs.Passed.{passed, passed-at, either}
+use Rattle.methodology.specs.Refusals.{isOpen, badOpening, openingRefusal, badLengths, badDayNumber, firstBadHeading, lastMissing, badAmount, dayRefusal}
+use Rattle.methodology.proofs.Passed.{passed, passed-at, either, number-rises}
 use Rattle.quotient.specs.Ranges.{greatestTotal}
 use Rattle.quotient.proofs.Bounds.{share-le}
 use Rattle.exposure.proofs.MaxTotal.{loss-le-total, max-le-total}
 use Rattle.validation.proofs.Headings.{bad-heading-le}
 use Rattle.validation.proofs.Opening.{opening-leaves}
 use Rattle.period.specs.declared.Period.{Period}
-use Rattle.period.specs.declared.Reply.{Reply}
-use Rattle.period.specs.Calls.{freshPeriod, held, inRange, statusOf, openingRow, openedPeriod, OpeningMeets, accountsBrought, dayRow, shareAt, sizedPeriod, DayMeets, closingRow, closedPeriod, ClosingMeets}
+use Rattle.period.specs.Calls.{freshPeriod, held, inRange, statusOf, openingRow, openedPeriod, accountsBrought, dayRow, shareAt, sizedPeriod, closingRow, closedPeriod}
 use Rattle.period.specs.Rows.{Passes}
+use Rattle.period.specs.Follows.{Reached, fresh, by-opening, by-day, by-closing}
 use Rattle.period.proofs.Ranges.{open-in-range}
 use Rattle.period.proofs.Sizing.{accounts-long, in-range, total-few}
 
@@ -70,14 +69,6 @@ passes p d room e =
       omega arith,
     )
 
--- its number
-number-rises : (last number : ℕ) → badDayNumber last number ≡ false → (number ≤ 31) × (last < number)
-unfolding badDayNumber
-number-rises last number e =
-    let (a, b) = neither (outside 1 31 number) (leb number last) e in
-    let (_, high) = neither (ltb number 1) (ltb 31 number) a in
-    (ltb-false 31 number high, leb-false number last b)
-
 module _ (p : Period) (d : DayInput) {room : ℕ} (s : Passes p d room) (positive : 0 < total (held p) (accountsBrought p d)) where
   share-few : (i : ℕ) → shareAt p d i ≤ scale
   unfolding share
@@ -107,13 +98,6 @@ module _ (p : Period) (d : DayInput) {room : ℕ} (s : Passes p d room) (positiv
         r .opened,
         sums-few,
       )
-
--- the periods that calls return, from a fresh one on
-pub data Reached : Period → Type 0 where
-  fresh : Reached freshPeriod
-  by-opening : {p : Period} {o : Opening} {r : Reply} → Reached p → OpeningMeets p o r → Reached (r .period)
-  by-day : {p : Period} {d : DayInput} {before : List ℕ} {r : Reply} {after : List ℕ} → Reached p → DayMeets p d before r after → Reached (r .period)
-  by-closing : {p : Period} {before : List ℕ} {r : Reply} {after : List ℕ} → Reached p → ClosingMeets p before r after → Reached (r .period)
 
 abbrev Sound : Period → Type 0
 Sound p = isOpen (p .status) ≡ true → inRange p ≡ true

@@ -3,7 +3,7 @@
 use mathlib.Core.Path.{_≡_, refl, sym, ap, subst, _∙_}
 use mathlib.Core.Bool.{Bool, true, false, cond}
 use mathlib.Core.List.{List, [], _∷_, map, flatMap, map-map}
-use Prim.Native.Nat.{ℕ, suc, _+_, _≤_, _<_, max}
+use Prim.Native.Nat.{ℕ, suc, _+_, _<_, max}
 use native.Mathlib.Nat.{add-comm, zero-add}
 use native.Mathlib.Numerals.{add-one}
 use native.Mathlib.Omega.{arith}
@@ -22,27 +22,15 @@ use Rattle.methodology.specs.Day.{total, maxEul, share, dailies}
 use Rattle.methodology.specs.Contribution.{KeptDay, highest, sumOfShares, funded, three}
 use Rattle.methodology.specs.Refusals.{isOpen, openingRefusal, dayRefusal, closingRefusal}
 use Rattle.methodology.specs.Register.{Call, Register, start, lastNumber, refusal, accept, ifAccepted, step, returned, written, Answer, accepted, answerBy, answer, buffer}
-use Rattle.fund.specs.Counted.{Counted}
 use Rattle.fund.proofs.Contributions.{are-contributions, is-total-funded}
 use Rattle.period.specs.declared.Period.{Period}
 use Rattle.period.specs.declared.Reply.{Reply}
 use Rattle.period.specs.Reading.{answerOf}
 use Rattle.period.specs.Registered.{sumAt, periodOf}
+use Rattle.period.specs.Follows.{Reached, fresh, by-opening, by-day, by-closing, Good, Follows}
 use Rattle.period.specs.Calls.{freshPeriod, held, statusOf, openingRow, openedPeriod, OpeningMeets, accountsBrought, dayRow, sizedPeriod, DayMeets, closingRow, sumsHeld, chargeBy, closedPeriod, ClosingMeets}
 use Rattle.period.proofs.Replies.{opening-passed}
-use Rattle.period.proofs.Reach.{held-opened, passes, Reached, fresh, by-opening, by-day, by-closing, status-counts}
-
--- what every register that calls lead to holds
-pub record Good (g : Register) : Type 0 where
-  pub groups-long : length (g .held .groups) ≡ g .held .n
-  pub members-few : g .held .n ≤ 32
-  pub counted : Counted (g .held) (g .days)
-
--- a register, and the period that the same calls have left
-pub record Follows (g : Register) (p : Period) : Type 0 where
-  pub is : p ≡ periodOf g
-  pub reached : Reached p
-  pub good : Good g
+use Rattle.period.proofs.Reach.{held-opened, passes, status-counts}
 
 pub starts : Follows start freshPeriod
 unfolding periodOf highest greatest range

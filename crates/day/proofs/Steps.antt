@@ -1,0 +1,108 @@
+-- A day's turn and the days after it, from what the functions that it calls have told: each law is one way out of a function.
+use mathlib.Core.Path.{_≡_, sym, ap, subst, _∙_}
+use mathlib.Core.Bool.{true, false, true≢false}
+use mathlib.Core.List.{List}
+use Prim.Native.Nat.{ℕ, _+_, _-_, _*_, _≤_, _<_}
+use native.Mathlib.Nat.{mul-le-mul}
+use native.Mathlib.Omega.{arith}
+use lib.IntN.{ℤ}
+use lib.ListN.{length, length-map}
+use Rattle.numbers.specs.Lists.{range}
+use Rattle.numbers.proofs.Lists.{range-length}
+use Rattle.methodology.specs.Register.{Register}
+use Rattle.methodology.specs.Text.{refusedLine}
+use Rattle.report.specs.Put.{Put}
+use Rattle.report.proofs.Laws.{put-then}
+use Rattle.headings.specs.Columns.{headingAt}
+use Rattle.period.specs.declared.Period.{Period}
+use Rattle.period.specs.declared.Reply.{Reply}
+use Rattle.period.specs.Calls.{DayMeets}
+use Rattle.accounts.specs.declared.Lines.{Lines}
+use Rattle.accounts.specs.declared.Lines.the-variants.{Read, Stopped}
+use Rattle.accounts.specs.Reading.{dayRead, accountsDue, dayDue, AccountsMeet}
+use Rattle.day.specs.declared.Turn.{Turn}
+use Rattle.day.specs.Turns.{daysDue, Held, TurnMeets, ended, goes-on, Stands, indexSaid}
+use Rattle.day.proofs.Indices.{index-few}
+
+-- ---- the call of a day that was read
+
+pub index-read : (period : Period) (number count k : ℕ) (members numbers kinds : List ℕ) (npvs : List ℤ) (margins extras before figures : List ℕ) (r : Reply)
+    → DayMeets period (dayRead number count k members numbers kinds npvs margins extras) before r figures → indexSaid (r .outcome) ≤ count
+index-read period number count k members numbers kinds npvs margins extras before figures r m =
+    let h = index-few period (dayRead number count k members numbers kinds npvs margins extras) before figures r m in
+    omega (arith, length-map (range 0 count) (headingAt members numbers kinds), range-length 0 count)
+
+-- ---- a day's acct lines
+
+pub npvs-fit : (count k size : ℕ) → count ≤ 256 → k ≤ 16 → size ≡ 4352 → count * (k + 1) ≤ size
+npvs-fit count k size h l s =
+    let z : count * (k + 1) ≤ 256 * 17 = mul-le-mul {m₁ = k + 1} {m₂ = 17} h (omega arith) in
+    omega arith
+
+pub npvs-few : (count k w size : ℕ) → count ≤ 256 → k ≤ 16 → w ≡ k + 6 → size ≡ 4352 → count * (w - 5) ≤ size
+npvs-few count k w size h l e s =
+    let z : w - 5 ≡ k + 1 = omega arith in
+    rw z (npvs-fit count k size h l s)
+
+module _ (text : List ℕ) (p count k w : ℕ) (wide : w ≡ k + 6) (members numbers kinds : List ℕ) (npvs : List ℤ) (margins extras : List ℕ) (r : Lines)
+    (m : AccountsMeet text p count (w - 6) members numbers kinds npvs margins extras r) where
+  width : w - 6 ≡ k
+  width = omega arith
+
+  abbrev Told : Lines → Type 0
+  Told r = AccountsMeet text p count (w - 6) members numbers kinds npvs margins extras r
+
+  module _ (j : ℕ) (e : r ≡ Stopped j) where
+    pub stopped-few : j < count
+    unfolding AccountsMeet
+    stopped-few = subst Told e m .0
+
+    pub stopped-due : (g : Register) (period : Period) (n number line : ℕ) → Held g period n k → accountsDue text p g number line count ≡ refusedLine 9 (line + 1 + j)
+    unfolding AccountsMeet
+    stopped-due g period n number line h = subst Told e m .1 g number line (h .scenarios ∙ sym width)
+
+  module _ (next : ℕ) (e : r ≡ Read next) where
+    pub read-inside : (p + count ≤ next) × (next ≤ length text)
+    unfolding AccountsMeet
+    read-inside = (subst Told e m .0, subst Told e m .1)
+
+    pub read-due : (g : Register) (period : Period) (n number line : ℕ) → Held g period n k
+        → accountsDue text p g number line count ≡ dayDue text next g (dayRead number count k members numbers kinds npvs margins extras) line count
+    unfolding AccountsMeet
+    read-due g period n number line h =
+        subst Told e m .2 g number line (h .scenarios ∙ sym width) ∙ ap (λ (x : ℕ). dayDue text next g (dayRead number count x members numbers kinds npvs margins extras) line count) width
+
+-- ---- turns
+
+module _ {due text before after : List ℕ} {n k at : ℕ} {t : Turn} where
+  pub same-due : {due′ : List ℕ} → due′ ≡ due → TurnMeets due text n k before at after t → TurnMeets due′ text n k before at after t
+  same-due e m = subst (λ (x : List ℕ). TurnMeets x text n k before at after t) (sym e) m
+
+  pub turn-over : TurnMeets due text n k before at after t → t .over ≡ true → Put before at due after (t .at)
+  turn-over (ended o w) e = w
+  turn-over (goes-on o g lines h w q) e = absurd (true≢false (sym e ∙ o))
+
+  pub turn-on : {final : List ℕ} {r : ℕ} → TurnMeets due text n k before at after t → t .over ≡ false
+      → ((g : Register) → Held g (t .period) n k → Put after (t .at) (daysDue text (t .next) (t .line) g) final r) → Put before at due final r
+  turn-on (ended o w) e f = absurd (true≢false (sym o ∙ e))
+  turn-on {final} {r} (goes-on o g lines h w q) e f = subst (λ (x : List ℕ). Put before at x final r) (sym q) (put-then w (f g h))
+
+pub same-put : {d e due due′ : List ℕ} {at r : ℕ} → due ≡ due′ → Put d at due′ e r → Put d at due e r
+same-put {d} {e} {at = at} {r = r} q w = subst (λ (x : List ℕ). Put d at x e r) (sym q) w
+
+-- a turn that is over stands nowhere
+pub over-stands : (text : List ℕ) (least : ℕ) (t : Turn) → t .over ≡ true → Stands text least t
+unfolding Stands
+over-stands text least t e = λ o. absurd (true≢false (sym e ∙ o))
+
+pub stands-at : (text : List ℕ) (least next line : ℕ) (t : Turn) → t .next ≡ next → t .line ≡ line → least ≤ next → next ≤ length text → line ≤ next + 1 → Stands text least t
+unfolding Stands
+stands-at text least next line t e f a b c = λ o. (omega arith, omega arith, omega arith)
+
+pub stands-before : (text : List ℕ) (least less : ℕ) (t : Turn) → less ≤ least → Stands text least t → Stands text less t
+unfolding Stands
+stands-before text least less t h s = λ o. let (a, b, c) = s o in (omega arith, b, c)
+
+pub on-stands : (text : List ℕ) (least : ℕ) (t : Turn) → Stands text least t → t .over ≡ false → (least ≤ t .next) × (t .next ≤ length text) × (t .line ≤ t .next + 1)
+unfolding Stands
+on-stands text least t s o = s o

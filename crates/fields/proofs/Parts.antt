@@ -1,0 +1,17 @@
+-- Parts of a text as the code cuts them out: all from an index on, and the first part of a split.
+use mathlib.Core.Path.{_≡_, sym, ap}
+use mathlib.Core.List.{List, []}
+use Prim.Native.Nat.{ℕ, _-_}
+use native.Mathlib.Nat.{sub-zero}
+use native.Mathlib.Omega.{arith}
+use lib.ListN.{length, getD, take, drop, length-drop}
+use lib.Seq.{take-all}
+use Rattle.methodology.specs.Text.{split}
+use Rattle.methodology.specs.Lines.{indexOf}
+use Rattle.methodology.proofs.Splits.{split-first}
+
+pub tail-is : (p : ℕ) (s : List ℕ) → take (length s - p) (drop p s) ≡ drop p s
+tail-is p s = take-all (length s - p) (drop p s) (omega (arith, length-drop p s))
+
+pub part-first : (b : ℕ) (s : List ℕ) (e : ℕ) → e ≡ indexOf b s → take (e - 0) s ≡ getD (split b s) 0 []
+part-first b s e h = rw (sub-zero e, h) (sym (ap (λ (l : List (List ℕ)). getD l 0 []) (split-first b s)))

@@ -1,0 +1,65 @@
+-- `same` meets its contract. The invariant: a and b are the same where what is left of them from index i on is.
+use mathlib.Core.Path.{_≡_, sym, _∙_}
+use Prim.Native.Nat.{_-_, _≤_}
+use native.Mathlib.Omega.{arith}
+use borrow.Author.Needs.{needs}
+use lib.ListN.{length, drop}
+use Rattle.methodology.specs.Text.{same}
+use Rattle.fields.proofs.Words.{other-length, equal-at, other-at, equal-end}
+use Rattle.fields.proofs.same.Statement.{statement}
+use Rattle.fields.proofs.same.Tie as tie
+
+abbrev Inv-loop : tie.InvT-loop
+Inv-loop a b i₀ i = (i ≤ length a) × (same a b ≡ same (drop i a) (drop i b))
+
+abbrev μ-loop : tie.MeasureT-loop
+μ-loop a b i₀ i = length a - i
+
+returns : tie.Need-returns Inv-loop μ-loop
+returns c = sym (other-length _ _ (c .if1 .taken))
+
+loop-holds : tie.Need-loop-holds Inv-loop μ-loop
+loop-holds c = search needs
+
+shared-slice-read-if2 : tie.Need-shared-slice-read-if2 Inv-loop μ-loop
+shared-slice-read-if2 c = search needs
+
+shared-slice-read-if2-2 : tie.Need-shared-slice-read-if2-2 Inv-loop μ-loop
+shared-slice-read-if2-2 c = search needs
+
+returns-2 : tie.Need-returns-2 Inv-loop μ-loop
+returns-2 c =
+    let l = c .before .before .before .before in
+    sym (l .loop .inv .1 ∙ other-at _ _ (l .loop .i) (omega arith) (omega arith) (c .if2 .taken))
+
+add-i : tie.Need-add-i Inv-loop μ-loop
+add-i c = search needs
+
+loop-less : tie.Need-loop-less Inv-loop μ-loop
+loop-less c = search needs
+
+loop-again : tie.Need-loop-again Inv-loop μ-loop
+loop-again c =
+    let l = c .before .before .before .before in
+    (omega arith, l .loop .inv .1 ∙ equal-at _ _ (l .loop .i) (omega arith) (omega arith) (c .if2 .left))
+
+returns-3 : tie.Need-returns-3 Inv-loop μ-loop
+returns-3 c =
+    let l = c .before in
+    sym (l .loop .inv .1 ∙ equal-end _ _ (l .loop .i) (omega arith) (omega arith))
+
+pub same-spec : {M : Type 1} → statement M
+same-spec =
+    tie.close
+    (tie.spec
+    Inv-loop
+    μ-loop
+    returns
+    loop-holds
+    shared-slice-read-if2
+    shared-slice-read-if2-2
+    returns-2
+    add-i
+    loop-less
+    loop-again
+    returns-3)

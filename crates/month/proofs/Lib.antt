@@ -1,0 +1,5 @@
+pub mod Pairs
+pub mod Calls
+pub mod Openings
+pub mod Turns
+pub mod Whole

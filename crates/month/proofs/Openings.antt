@@ -1,0 +1,145 @@
+-- The member lines, one by one, and the opening call after the last: what is due of all is what is due of those that are left.
+use mathlib.Core.Path.{_≡_, refl, sym, ap, subst, _∙_}
+use mathlib.Core.Bool.{Bool, true, false, cond}
+use mathlib.Core.List.{List, [], _∷_, _++_}
+use mathlib.Core.Option.{Option, none, some}
+use Prim.Native.Nat.{ℕ, suc, _+_, _≤_, _<_}
+use native.Mathlib.Omega.{arith}
+use native.Mathlib.Numerals.{add-one}
+use lib.Dec.{eqb}
+use lib.ListN.{length, getD, take, drop, set, length-append, length-set}
+use lib.Seq.{length-take-le, take-suc-set}
+use borrow.Author.Tests.{eqb-true, eq-eqb, ne-eqb}
+use Rattle.methodology.specs.Account.{Opening}
+use Rattle.methodology.specs.Register.{Call, start, refusal}
+use Rattle.methodology.specs.Text.{LF, bytes, split, refusedLine, numbersAfter, member, goesOn, opened, readMember, followedBy, reportFrom}
+use Rattle.methodology.specs.Lines.{indexOf, lineRead}
+use Rattle.methodology.proofs.Splits.{member-line}
+use Rattle.lines.specs.declared.Pair.the-variants.{Two, Bad}
+use Rattle.lines.specs.Forms.{pairOf}
+use Rattle.period.specs.declared.Period.{Period}
+use Rattle.period.specs.declared.Reply.{Reply}
+use Rattle.period.specs.Reading.{brought}
+use Rattle.period.specs.Calls.{freshPeriod, OpeningMeets}
+use Rattle.accounts.specs.declared.Lines.{Lines}
+use Rattle.accounts.specs.declared.Lines.the-variants.{Read, Stopped}
+use Rattle.month.specs.Reading.{membersDue, openingDue, MembersMeet}
+use Rattle.month.proofs.Pairs.{pair-none, Numbers, pair-some, line-inside, after-is}
+
+-- ---- one line
+
+-- the next line is member j + 1's
+module _ (text : List ℕ) (p n k j : ℕ) (groups : List ℕ) (long : length groups ≡ j) where
+  abbrev o : Opening
+  o = brought n k groups
+
+  abbrev found : Option (List ℕ)
+  found = lineRead (numbersAfter (bytes "member") 2) (drop p text)
+
+  abbrev next : ℕ
+  next = p + indexOf LF (drop p text) + 1
+
+  -- what is due with this line read
+  abbrev due : Opening → List ℕ
+  due o = cond (eqb (suc j) n) (openingDue text next o) (reportFrom (2 + suc j) (split LF (drop next text)) (member o))
+
+  member-bad : found ≡ none → reportFrom (2 + j) (split LF (drop p text)) (member o) ≡ refusedLine 9 (2 + j)
+  unfolding readMember followedBy
+  member-bad e = member-line o (2 + j) (drop p text) ∙ rw e
+
+  longer : (g : ℕ) → length (groups ++ (g ∷ [])) ≡ suc j
+  longer g = length-append groups (g ∷ []) ∙ omega arith
+
+  member-other : (ns : List ℕ) → found ≡ some ns → (getD ns 0 0 ≡ j + 1 → ⊥) → reportFrom (2 + j) (split LF (drop p text)) (member o) ≡ refusedLine 9 (2 + j)
+  unfolding readMember followedBy
+  member-other ns e h = member-line o (2 + j) (drop p text) ∙ rw (e, longer (getD ns 1 0), ne-eqb (getD ns 0 0) (suc j) (λ z. h (omega arith)))
+
+  member-more : (ns : List ℕ) → found ≡ some ns → getD ns 0 0 ≡ j + 1 → reportFrom (2 + j) (split LF (drop p text)) (member o) ≡ due (brought n k (groups ++ (getD ns 1 0 ∷ [])))
+  unfolding readMember followedBy
+  member-more ns e h =
+      let z : 2 + j + 1 ≡ 2 + suc j = omega arith in
+      member-line o (2 + j) (drop p text)
+      ∙ rw (e, longer (getD ns 1 0), eq-eqb (getD ns 0 0) (suc j) (omega arith), after-is text p, z) (by (eqb (suc j) n) refl)
+    where
+      o′ : Opening
+      o′ = brought n k (groups ++ (getD ns 1 0 ∷ []))
+
+      by : (b : Bool) → eqb (suc j) n ≡ b
+          → followedBy (cond b (opened (refusal start (Call.opening o′)) o′) (goesOn [] (member o′))) (reportFrom (2 + suc j) (split LF (drop next text)))
+          ≡ cond b (openingDue text next o′) (reportFrom (2 + suc j) (split LF (drop next text)) (member o′))
+      by true q = ap (λ (x : ℕ). followedBy (opened (refusal start (Call.opening o′)) o′) (reportFrom (2 + x) (split LF (drop next text)))) (eqb-true (suc j) n q)
+      by false q = refl
+
+-- ---- all lines, from index p on: j of them are read, and the next stands at index q
+
+abbrev left : (text : List ℕ) → (n k q j : ℕ) → (groups : List ℕ) → List ℕ
+left text n k q j groups =
+    cond (eqb j n) (openingDue text q (brought n k groups)) (reportFrom (2 + j) (split LF (drop q text)) (member (brought n k groups)))
+
+pub record Left (text : List ℕ) (p n : ℕ) (size : ℕ) (groups : List ℕ) (q j : ℕ) : Type 0 where
+  pub few : j ≤ n
+  pub inside : q ≤ length text
+  pub passed : p + j ≤ q
+  pub room : length groups ≡ size
+  pub same : (k : ℕ) → membersDue text p n k ≡ left text n k q j (take j groups)
+
+module _ (text : List ℕ) (p n size : ℕ) (enough : n ≤ size) where
+  pub left-start : (groups : List ℕ) → length groups ≡ size → 1 ≤ n → p ≤ length text → Left text p n size groups p 0
+  left-start groups room h l =
+      record { few = omega arith; inside = l; passed = omega arith; room = room; same = λ k. rw (ne-eqb 0 n (λ e. omega arith)) }
+
+  module _ (groups : List ℕ) (q j : ℕ) (l : Left text p n size groups q j) (h : j < n) where
+    abbrev here : Option (List ℕ)
+    here = lineRead (numbersAfter (bytes "member") 2) (drop q text)
+
+    abbrev end : ℕ
+    end = q + indexOf LF (drop q text) + 1
+
+    long : length (take j groups) ≡ j
+    long = length-take-le j groups (omega (arith, l .room))
+
+    open-left : (k : ℕ) → membersDue text p n k ≡ reportFrom (2 + j) (split LF (drop q text)) (member (brought n k (take j groups)))
+    open-left k = l .same k ∙ rw (ne-eqb j n (λ e. omega arith))
+
+    pub left-bad : pairOf here end ≡ Bad → (k : ℕ) → membersDue text p n k ≡ refusedLine 9 (2 + j)
+    left-bad e k = open-left k ∙ member-bad text q n k j (take j groups) long (pair-none here end e)
+
+    module _ (number group r : ℕ) (e : pairOf here end ≡ Two number group r) where
+      abbrev told : Numbers here end number group r
+      told = pair-some here end number group r e
+
+      pub left-other : (number ≡ j + 1 → ⊥) → (k : ℕ) → membersDue text p n k ≡ refusedLine 9 (2 + j)
+      left-other z k = open-left k ∙ member-other text q n k j (take j groups) long (told .numbers) (told .read) (λ y. z (sym (told .first) ∙ y))
+
+      one-more : take j groups ++ (getD (told .numbers) 1 0 ∷ []) ≡ take (j + 1) (set groups j group)
+      one-more = rw (told .second, add-one j) (sym (take-suc-set groups j group (omega (arith, l .room))))
+
+      pub left-more : number ≡ j + 1 → Left text p n size (set groups j group) r (j + 1)
+      left-more z =
+          record {
+            few = omega arith;
+            inside = rw (told .index) (line-inside text q _ _ (told .read));
+            passed = omega (arith, told .index, l .passed);
+            room = length-set groups j group ∙ l .room;
+            same = λ k. open-left k ∙ member-more text q n k j (take j groups) long (told .numbers) (told .read) (told .first ∙ z) ∙ (λ i. left text n k (sym (told .index) i) (sym (add-one j) i) (one-more i));
+          }
+
+  pub left-end : (groups : List ℕ) (q j : ℕ) → Left text p n size groups q j → n ≤ j → (k : ℕ) → membersDue text p n k ≡ openingDue text q (brought n k (take n groups))
+  left-end groups q j l h k =
+      let z : j ≡ n = omega (arith, l .few) in
+      l .same k ∙ rw (z, eq-eqb n n refl)
+
+-- ---- what reading them has told
+
+module _ (text : List ℕ) (p n : ℕ) (groups : List ℕ) (r : Lines) (m : MembersMeet text p n groups r) where
+  pub members-stopped : (j : ℕ) → r ≡ Stopped j → (j < n) × ((k : ℕ) → membersDue text p n k ≡ refusedLine 9 (2 + j))
+  unfolding MembersMeet
+  members-stopped j e = subst (MembersMeet text p n groups) e m
+
+  pub members-read : (next : ℕ) → r ≡ Read next
+      → (p + n ≤ next) × (next ≤ length text) × ((k : ℕ) → membersDue text p n k ≡ openingDue text next (brought n k (take n groups)))
+  unfolding MembersMeet
+  members-read next e = subst (MembersMeet text p n groups) e m
+
+pub from-fresh : {p : Period} {o : Opening} {r : Reply} → p ≡ freshPeriod → OpeningMeets p o r → OpeningMeets freshPeriod o r
+from-fresh {o = o} {r = r} e m = subst (λ (p : Period). OpeningMeets p o r) e m

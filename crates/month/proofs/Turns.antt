@@ -1,0 +1,129 @@
+-- The line at index p where a day or the end is due, and the period line: what reading it comes to, by what the code has found of it.
+use mathlib.Core.Path.{_≡_, sym, ap, _∙_}
+use mathlib.Core.Bool.{true, false, _||_}
+use mathlib.Core.List.{List, []}
+use mathlib.Core.Option.{Option}
+use Prim.Native.Nat.{ℕ, _+_, _-_, _*_, _≤_, _<_}
+use native.Mathlib.Omega.{arith}
+use lib.Dec.{eqb}
+use lib.ListN.{length, getD, take, drop, length-drop, drop-of-length-le}
+use lib.Seq.{length-take-le}
+use borrow.Author.Tests.{ltb-true, lt-ltb, le-ltb}
+use Rattle.numbers.proofs.Tests.{both}
+use Rattle.numbers.proofs.Lists.{first-le}
+use Rattle.methodology.specs.Register.{Call, Register, refusal}
+use Rattle.methodology.specs.Refusals.{outside}
+use Rattle.methodology.specs.Text.{LF, bytes, same, split, numbersAfter, refusedLine, afterEnd, readPeriod, readDay, closed, followedBy, reportFrom, reportOf}
+use Rattle.methodology.specs.Lines.{indexOf, has, before, isEnd, lineRead}
+use Rattle.methodology.proofs.Splits.{split-first, same-eq, period-line, end-line, day-line, nothing-after, something-after}
+use Rattle.fields.proofs.Parts.{tail-is}
+use Rattle.lines.specs.declared.Pair.the-variants.{Two, Bad}
+use Rattle.lines.specs.Forms.{pairOf}
+use Rattle.accounts.specs.Reading.{accountsDue}
+use Rattle.day.specs.Turns.{daysDue}
+use Rattle.month.specs.Reading.{membersDue}
+use Rattle.month.proofs.Pairs.{pair-none, Numbers, pair-some, line-inside, after-is}
+
+-- ---- the period line
+
+module _ (text : List ℕ) where
+  abbrev head : Option (List ℕ)
+  head = lineRead (numbersAfter (bytes "period") 2) (drop 0 text)
+
+  abbrev head-end : ℕ
+  head-end = 0 + indexOf LF (drop 0 text) + 1
+
+  pub period-bad : pairOf head head-end ≡ Bad → reportOf text ≡ refusedLine 9 1
+  unfolding reportOf readPeriod followedBy
+  period-bad e = period-line 1 text ∙ rw (pair-none head head-end e)
+
+  module _ (n k r : ℕ) (e : pairOf head head-end ≡ Two n k r) where
+    abbrev told : Numbers head head-end n k r
+    told = pair-some head head-end n k r e
+
+    pub period-outside : (outside 1 32 n || outside 1 16 k) ≡ true → reportOf text ≡ refusedLine 1 1
+    unfolding reportOf readPeriod followedBy
+    period-outside h = period-line 1 text ∙ rw (told .read, told .first, told .second, h)
+
+    pub period-good : (outside 1 32 n || outside 1 16 k) ≡ false → reportOf text ≡ membersDue text r n k
+    unfolding reportOf readPeriod followedBy
+    period-good h = period-line 1 text ∙ rw (told .read, told .first, told .second, h, after-is text 0, told .index)
+
+    pub period-inside : r ≤ length text
+    period-inside = rw (told .index) (line-inside text 0 _ _ (told .read))
+
+-- ---- a day line
+
+module _ (text : List ℕ) (p line : ℕ) (g : Register) (d : isEnd (drop p text) ≡ false) where
+  abbrev here : Option (List ℕ)
+  here = lineRead (numbersAfter (bytes "day") 2) (drop p text)
+
+  abbrev end : ℕ
+  end = p + indexOf LF (drop p text) + 1
+
+  pub day-bad : pairOf here end ≡ Bad → daysDue text p line g ≡ refusedLine 9 line
+  unfolding readDay followedBy
+  day-bad e = day-line g line (drop p text) d ∙ rw (pair-none here end e)
+
+  module _ (number count r : ℕ) (e : pairOf here end ≡ Two number count r) where
+    abbrev day-told : Numbers here end number count r
+    day-told = pair-some here end number count r e
+
+    pub day-outside : outside 1 256 count ≡ true → daysDue text p line g ≡ refusedLine 4 line
+    unfolding readDay followedBy
+    day-outside h = day-line g line (drop p text) d ∙ rw (day-told .read, day-told .second, h)
+
+    pub day-good : outside 1 256 count ≡ false → daysDue text p line g ≡ accountsDue text r g number line count
+    unfolding readDay followedBy
+    day-good h = day-line g line (drop p text) d ∙ rw (day-told .read, day-told .first, day-told .second, h, after-is text p, day-told .index)
+
+pub pair-inside : (text word : List ℕ) (p a b r : ℕ) → pairOf (lineRead (numbersAfter word 2) (drop p text)) (p + indexOf LF (drop p text) + 1) ≡ Two a b r → (p + 1 ≤ r) × (r ≤ length text)
+pair-inside text word p a b r e =
+    let t = pair-some (lineRead (numbersAfter word 2) (drop p text)) _ a b r e in
+    (omega (arith, t .index), rw (t .index) (line-inside text p _ _ (t .read)))
+
+-- ---- the end line
+
+module _ (text : List ℕ) (p : ℕ) (e : isEnd (drop p text) ≡ true) where
+  end-index : indexOf LF (drop p text) ≡ 3
+  unfolding bytes
+  end-index =
+      let (h, k) = both (has LF (drop p text)) (same (before LF (drop p text)) (bytes "end")) e in
+      sym (length-take-le (indexOf LF (drop p text)) (drop p text) (first-le (λ x. eqb x LF) (drop p text))) ∙ ap length (same-eq (before LF (drop p text)) (bytes "end") k)
+
+  pub end-inside : p + 4 ≤ length text
+  end-inside =
+      let (h, k) = both (has LF (drop p text)) (same (before LF (drop p text)) (bytes "end")) e in
+      omega (arith, ltb-true (indexOf LF (drop p text)) (length (drop p text)) h, end-index, length-drop p text)
+
+  pub end-due : (line : ℕ) (g : Register) → daysDue text p line g ≡ reportFrom (line + 1) (split LF (drop (p + 4) text)) (afterEnd g line)
+  end-due line g =
+      let z : p + indexOf LF (drop p text) + 1 ≡ p + 4 = omega (arith, end-index) in
+      end-line g line (drop p text) e ∙ ap (λ (x : List ℕ). reportFrom (line + 1) (split LF x) (afterEnd g line)) (after-is text p ∙ ap (λ (m : ℕ). drop m text) z)
+
+-- ---- how the end line is told
+
+module _ (text : List ℕ) (p : ℕ) (l : List ℕ) (e : l ≡ getD (split LF (take (length text - p) (drop p text))) 0 []) where
+  line-is : l ≡ before LF (drop p text)
+  line-is = e ∙ ap (λ (s : List ℕ). getD (split LF s) 0 []) (tail-is p text) ∙ ap (λ (x : List (List ℕ)). getD x 0 []) (split-first LF (drop p text))
+
+  line-length : length l ≡ indexOf LF (drop p text)
+  line-length = ap length line-is ∙ length-take-le (indexOf LF (drop p text)) (drop p text) (first-le (λ x. eqb x LF) (drop p text))
+
+  -- what runs to the text's end is no line
+  pub no-end : length l ≡ length text - p → false ≡ isEnd (drop p text)
+  no-end h = rw (le-ltb (indexOf LF (drop p text)) (length (drop p text)) (omega (arith, line-length, length-drop p text)))
+
+  pub may-end : (length l ≡ length text - p → ⊥) → same l (bytes "end") ≡ isEnd (drop p text)
+  may-end h =
+      let k = first-le (λ x. eqb x LF) (drop p text) in
+      rw (lt-ltb (indexOf LF (drop p text)) (length (drop p text)) (omega (arith, line-length, length-drop p text)), line-is)
+
+-- ---- after the end line
+
+module _ (text : List ℕ) (p line : ℕ) (g : Register) where
+  pub bytes-after : p < length text → reportFrom (line + 1) (split LF (drop p text)) (afterEnd g line) ≡ refusedLine 9 (line + 1)
+  bytes-after h = something-after g line (line + 1) (drop p text) (omega (arith, length-drop p text))
+
+  pub closing-due : length text ≤ p → reportFrom (line + 1) (split LF (drop p text)) (afterEnd g line) ≡ closed (refusal g (Call.closing (3 * g .held .n))) g line
+  closing-due h = ap (λ (s : List ℕ). reportFrom (line + 1) (split LF s) (afterEnd g line)) (drop-of-length-le text h) ∙ nothing-after g line (line + 1)

@@ -1,0 +1,53 @@
+-- `end_at` meets its contract: a byte after the end line is bad, and without one the closing call is made.
+use borrow.Author.Needs.{needs}
+use mathlib.Core.Path.{sym}
+use native.Mathlib.Omega.{arith}
+use lib.Seq.{length-take-le}
+use Rattle.month.proofs.Turns.{bytes-after, closing-due}
+use Rattle.month.proofs.days.end_at.Statement.{statement}
+use Rattle.month.proofs.days.end_at.Tie as tie
+
+add-put-refused : tie.Need-add-put-refused
+add-put-refused c = search needs
+
+put-refused-requires : tie.Need-put-refused-requires
+put-refused-requires c κs = search needs
+
+same-length : tie.Need-same-length
+same-length c = search needs
+
+returns : tie.Need-returns
+returns c = λ g k h. let a = c .before .before .before .before .before .before .before .args in rw (bytes-after (a .text .now) (a .p) (a .line) g (omega (arith, c .before .before .before .before .if1 .taken, c .before .before .before .before .before .before .before .pre .0))) (c .before .before .put-refused .ensures)
+
+mul-room : tie.Need-mul-room
+mul-room c = search needs
+
+array-borrow-prefix-figures : tie.Need-array-borrow-prefix-figures
+array-borrow-prefix-figures c = search needs
+
+slice-aggregate-close : tie.Need-slice-aggregate-close
+slice-aggregate-close c = sym (length-take-le _ _ (search needs))
+
+close-requires : tie.Need-close-requires
+close-requires c κs = (search needs, length-take-le _ _ (search needs))
+
+same-length-2 : tie.Need-same-length-2
+same-length-2 c = search needs
+
+returns-2 : tie.Need-returns-2
+returns-2 c = λ g k h. let a = c .before .before .before .before .before .before .before .before .before .args in rw (closing-due (a .text .now) (a .p) (a .line) g (omega (arith, c .before .before .before .before .before .before .if1 .left))) (c .before .before .before .close .ensures g k h)
+
+pub end-at-spec : {M : Type 1} → statement M
+end-at-spec =
+    tie.close
+    (tie.spec
+    add-put-refused
+    put-refused-requires
+    same-length
+    returns
+    mul-room
+    array-borrow-prefix-figures
+    slice-aggregate-close
+    close-requires
+    same-length-2
+    returns-2)

@@ -1,0 +1,65 @@
+// The member lines, and the opening call that they ask for.
+use crate::days::days;
+use accounts::Lines;
+use lines::Pair;
+use lines::pair_at;
+use period::Outcome;
+use period::Period;
+use report::put_bytes;
+use report::put_refused;
+ghost use Prim.Native.Nat.{_≤_};
+ghost use lib.ListN.{length};
+ghost use Rattle.report.specs.Put.{Put};
+ghost use Rattle.month.specs.Reading.{membersDue, MembersMeet};
+
+// Reads the n member lines from index p on, the groups into the slice.
+fn read_members(text: &[u8], p: usize, n: usize, groups: &mut [u64]) -> Lines
+    requires { ⌜ p ≤ length (now text) ⌝ }
+    requires { ⌜ (1 ≤ n) × (n ≤ length (now groups)) ⌝ }
+    ensures { λ r. ⌜ MembersMeet (now (text .entry)) p n (now (groups .exit)) r ⌝ }
+{
+    let mut at = p;
+    let mut j: usize = 0;
+    while j < n {
+        let pair = pair_at(text, at, b"member");
+        let Pair::Two(member, group, next) = pair else {
+            return Lines::Stopped(j);
+        };
+        if member != j as u64 + 1 {
+            return Lines::Stopped(j);
+        }
+        groups[j] = group;
+        at = next;
+        j += 1;
+    }
+    Lines::Read(at)
+}
+
+// The report from the member lines on.
+pub fn from_members(text: &[u8], p: usize, n: usize, k: usize, out: &mut [u8]) -> usize
+    requires { ⌜ (1 ≤ p) × (p ≤ length (now text)) ⌝ }
+    requires { ⌜ (1 ≤ n) × (n ≤ 32) × (1 ≤ k) × (k ≤ 16) ⌝ }
+    ensures { λ r. ⌜ Put (now (out .entry)) 0 (membersDue (now (text .entry)) p n k) (now (out .exit)) r ⌝ }
+{
+    let mut groups = [0u64; 32];
+    let lines = read_members(text, p, n, &mut groups);
+    let next = match lines {
+        Lines::Stopped(j) => {
+            return put_refused(out, 0, 9, 2 + j as u64);
+        }
+        Lines::Read(next) => next,
+    };
+    let period = Period::fresh();
+    let reply = period.opening(n as u64, k as u64, &groups[..n]);
+    let outcome = reply.outcome;
+    match outcome {
+        Outcome::Opened => {
+            let after = reply.period;
+            days(text, next, 2 + n as u64, n, k, after, out, 0)
+        }
+        Outcome::Refused(number) => put_refused(out, 0, number, 1),
+        Outcome::RefusedAt(number, _) => put_refused(out, 0, number, 1),
+        Outcome::Sized(_, _) => put_bytes(out, 0, b""),
+        Outcome::Closed(_, _, _) => put_bytes(out, 0, b""),
+    }
+}
