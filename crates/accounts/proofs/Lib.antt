@@ -1,4 +1,4 @@
 pub mod Rows
 pub mod Line
 pub mod Stores
-pub mod Reading
+pub mod AcctLoop

@@ -1,14 +1,14 @@
 -- An account's line taken off the front of a text: what the report is then, for a bad line, one too many bytes, one more account, and the last.
 -- The used bytes are those from the day's first acct line on, at index p.
-use mathlib.Core.Path.{_≡_, refl, ap, _∙_}
+use mathlib.Core.Path.{_≡_, refl, _∙_}
 use mathlib.Core.Bool.{Bool, true, false, cond}
 use mathlib.Core.List.{List, []}
 use mathlib.Core.Option.{none, some}
-use Prim.Native.Nat.{ℕ, suc, _+_, _-_, _*_, _≤_, _<_}
+use Prim.Native.Nat.{ℕ, _+_, _-_, _*_, _≤_, _<_}
 use native.Mathlib.Omega.{arith}
 use lib.Dec.{eqb, ltb}
 use lib.ListN.{length, drop}
-use lib.Seq.{drop-drop, length-take-le}
+use lib.Seq.{length-take-le}
 use borrow.Author.Tests.{eq-eqb, ne-eqb, lt-ltb, le-ltb}
 use Rattle.numbers.proofs.Lists.{first-le}
 use Rattle.methodology.specs.Account.{DayInput}
@@ -16,6 +16,7 @@ use Rattle.methodology.specs.Register.{Call, Register, refusal}
 use Rattle.methodology.specs.Text.{LF, split, AccountLine, accountOf, refusedLine, account, Read, goesOn, bad, sized, withAccount, readAccount, followedBy, reportFrom}
 use Rattle.methodology.specs.Lines.{indexOf, before, after, lineRead}
 use Rattle.methodology.proofs.Splits.{usedBy, account-line}
+use Rattle.fields.proofs.Parts.{after-is}
 
 module _ (g : Register) (d : DayInput) (at count i : ℕ) (text : List ℕ) (p q : ℕ) (far : p ≤ q) where
   abbrev s : List ℕ
@@ -32,11 +33,6 @@ module _ (g : Register) (d : DayInput) (at count i : ℕ) (text : List ℕ) (p q
   used-is =
       let l : length (before LF s) ≡ indexOf LF s = length-take-le (indexOf LF s) s (first-le (λ x. eqb x LF) s) in
       omega arith
-
-  after-is : after LF s ≡ drop next text
-  after-is =
-      let z : q + suc (indexOf LF s) ≡ next = omega arith in
-      drop-drop (suc (indexOf LF s)) q text ∙ ap (λ (n : ℕ). drop n text) z
 
   pub line-bad : lineRead (accountOf (g .held .k)) s ≡ none → due ≡ refusedLine 9 i
   unfolding readAccount followedBy
@@ -60,7 +56,7 @@ module _ (g : Register) (d : DayInput) (at count i : ℕ) (text : List ℕ) (p q
 
     line-read : due ≡ followedBy (cond (eqb (length (d′ .headings)) count) call (goesOn [] (account g d′ at count (next - p)))) (reportFrom (i + 1) rest)
     unfolding readAccount
-    line-read = account-line g d at count (q - p) i s ∙ rw (le-ltb 65536 (usedBy (q - p) s) (omega (arith, used-is)), e, used-is, after-is, more)
+    line-read = account-line g d at count (q - p) i s ∙ rw (le-ltb 65536 (usedBy (q - p) s) (omega (arith, used-is)), e, used-is, after-is LF text q, more)
 
     pub line-more : length (d′ .headings) < count → due ≡ reportFrom (i + 1) rest (account g d′ at count (next - p))
     unfolding followedBy

@@ -13,9 +13,9 @@ use Rattle.numbers.specs.Lists.{range}
 use Rattle.numbers.specs.Signed.{_⁺}
 use Rattle.numbers.proofs.Lists.{range-more, mem-range, map-eq}
 use Rattle.methodology.specs.Text.{withAccount}
-use Rattle.headings.specs.Columns.{headingAt}
+use Rattle.methodology.specs.Account.{headingAt}
 use Rattle.lines.specs.Forms.{accountIn}
-use Rattle.accounts.specs.Reading.{dayRead}
+use Rattle.accounts.specs.AcctLines.{dayRead}
 use Rattle.accounts.proofs.Rows.{npvsOf}
 
 -- the place of account j's NPVs, w for each account

@@ -8,7 +8,7 @@ ghost use lib.IntN.{pos};
 ghost use lib.ListN.{length, getD, set, drop};
 ghost use Rattle.numbers.specs.Signed.{_⁺};
 ghost use Rattle.lines.specs.Forms.{isNegative, signsWrong};
-ghost use Rattle.accounts.specs.Reading.{AccountsMeet};
+ghost use Rattle.accounts.specs.AcctLines.{AccountsMeet};
 
 // What reading lines comes to: the index after them, or the first bad one, counted from 0.
 pub enum Lines {
@@ -18,6 +18,14 @@ pub enum Lines {
 
 // "A day's acct lines hold at most 65,536 bytes with their LFs".
 const MOST_BYTES: usize = 65_536;
+
+// Number i of a row, which is not negative, into place j of a column.
+fn store_one(row: &[i64], i: usize, column: &mut [u64], j: usize)
+    requires { ⌜ (i < length (now row)) × (isNegative (getD (now row) i (pos 0)) ≡ false) × (j < length (now column)) ⌝ }
+    ensures { λ r. ⌜ now (column .exit) ≡ set (now (column .entry)) j (getD (now (row .entry)) i (pos 0) ⁺) ⌝ }
+{
+    column[j] = row[i] as u64;
+}
 
 // An account's row into place j of the slices, all but its NPVs.
 fn store(
@@ -37,11 +45,11 @@ fn store(
     ensures { λ r. ⌜ now (margins .exit) ≡ set (now (margins .entry)) j (getD (now (row .entry)) 4 (pos 0) ⁺) ⌝ }
     ensures { λ r. ⌜ now (extras .exit) ≡ set (now (extras .entry)) j (getD (now (row .entry)) 5 (pos 0) ⁺) ⌝ }
 {
-    members[j] = row[0] as u64;
-    numbers[j] = row[1] as u64;
-    kinds[j] = row[2] as u64;
-    margins[j] = row[4] as u64;
-    extras[j] = row[5] as u64;
+    store_one(row, 0, members, j);
+    store_one(row, 1, numbers, j);
+    store_one(row, 2, kinds, j);
+    store_one(row, 4, margins, j);
+    store_one(row, 5, extras, j);
 }
 
 // The base and the stresses of an account's row: its NPVs.

@@ -1,20 +1,18 @@
 -- The day that a call brings is the one that was read.
 use mathlib.Core.Path.{_≡_, ap, subst, _∙_}
 use mathlib.Core.List.{List}
-use Prim.Native.Nat.{ℕ, _+_, _-_, _*_, _≤_}
+use Prim.Native.Nat.{ℕ, _+_, _*_, _≤_}
 use lib.IntN.{ℤ}
 use lib.ListN.{take}
 use Rattle.numbers.proofs.Lists.{table-take}
 use Rattle.methodology.specs.declared.Heading.{Heading}
-use Rattle.methodology.specs.Account.{DayInput, nobody}
-use Rattle.methodology.specs.Text.{period}
-use Rattle.methodology.specs.Lines.{before, after}
-use Rattle.headings.specs.Columns.{headingAt, packed}
+use Rattle.methodology.specs.Account.{DayInput, nobody, headingAt}
+use Rattle.headings.specs.Columns.{packed}
 use Rattle.period.specs.declared.Period.{Period}
 use Rattle.period.specs.declared.Reply.{Reply}
 use Rattle.period.specs.Reading.{dayBrought}
 use Rattle.period.specs.Calls.{DayMeets}
-use Rattle.accounts.specs.Reading.{dayRead}
+use Rattle.accounts.specs.AcctLines.{dayRead}
 
 pub day-brought : (number count k : ℕ) (members numbers kinds : List ℕ) (npvs : List ℤ) (margins extras : List ℕ) (hs : List Heading) → count ≤ 256 → hs ≡ packed members numbers kinds
     → dayBrought number (take count hs) (take (count * (k + 1)) npvs) (take count margins) (take count extras) ≡ dayRead number count k members numbers kinds npvs margins extras

@@ -1,36 +1,38 @@
 -- A day's turn and the days after it, from what the functions that it calls have told: each law is one way out of a function.
-use mathlib.Core.Path.{_≡_, sym, ap, subst, _∙_}
-use mathlib.Core.Bool.{true, false, true≢false}
-use mathlib.Core.List.{List}
+use mathlib.Core.Path.{_≡_, refl, sym, ap, subst, _∙_}
+use mathlib.Core.Bool.{Bool, true, false, true≢false, cond}
+use mathlib.Core.List.{List, [], _++_, map, append-nil}
 use Prim.Native.Nat.{ℕ, _+_, _-_, _*_, _≤_, _<_}
 use native.Mathlib.Nat.{mul-le-mul}
 use native.Mathlib.Omega.{arith}
 use lib.IntN.{ℤ}
-use lib.ListN.{length, length-map}
+use lib.ListN.{length, drop, length-map}
 use Rattle.numbers.specs.Lists.{range}
 use Rattle.numbers.proofs.Lists.{range-length}
-use Rattle.methodology.specs.Register.{Register}
-use Rattle.methodology.specs.Text.{refusedLine}
+use Rattle.methodology.specs.Account.{DayInput, headingAt}
+use Rattle.methodology.specs.Register.{Call, Register, step}
+use Rattle.methodology.specs.Text.{LF, split, refusedLine, reportFrom}
 use Rattle.report.specs.Put.{Put}
 use Rattle.report.proofs.Laws.{put-then}
-use Rattle.headings.specs.Columns.{headingAt}
 use Rattle.period.specs.declared.Period.{Period}
 use Rattle.period.specs.declared.Reply.{Reply}
 use Rattle.period.specs.Calls.{DayMeets}
+use Rattle.answers.specs.Held.{Held}
+use Rattle.answers.specs.Said.{said, isOver}
+use Rattle.answers.proofs.Outcomes.{OfDay, day-outcome}
+use Rattle.answers.proofs.Calls.{day-said, day-held}
 use Rattle.accounts.specs.declared.Lines.{Lines}
 use Rattle.accounts.specs.declared.Lines.the-variants.{Read, Stopped}
-use Rattle.accounts.specs.Reading.{dayRead, accountsDue, dayDue, AccountsMeet}
+use Rattle.accounts.specs.AcctLines.{dayRead, accountsDue, dayDue, AccountsMeet}
 use Rattle.day.specs.declared.Turn.{Turn}
-use Rattle.day.specs.Turns.{daysDue, Held, TurnMeets, ended, goes-on, Stands, indexSaid}
-use Rattle.day.proofs.Indices.{index-few}
+use Rattle.day.specs.Turns.{daysDue, TurnMeets, ended, goes-on, Stands}
 
 -- ---- the call of a day that was read
 
-pub index-read : (period : Period) (number count k : ℕ) (members numbers kinds : List ℕ) (npvs : List ℤ) (margins extras before figures : List ℕ) (r : Reply)
-    → DayMeets period (dayRead number count k members numbers kinds npvs margins extras) before r figures → indexSaid (r .outcome) ≤ count
-index-read period number count k members numbers kinds npvs margins extras before figures r m =
-    let h = index-few period (dayRead number count k members numbers kinds npvs margins extras) before figures r m in
-    omega (arith, length-map (range 0 count) (headingAt members numbers kinds), range-length 0 count)
+pub read-outcome : (count : ℕ) (members numbers kinds : List ℕ) {period : Period} {d : DayInput} {before figures : List ℕ} {r : Reply}
+    → d .headings ≡ map (headingAt members numbers kinds) (range 0 count) → DayMeets period d before r figures → OfDay count (r .outcome)
+read-outcome count members numbers kinds {r = r} e m =
+    subst (λ (c : ℕ). OfDay c (r .outcome)) (ap length e ∙ length-map (range 0 count) (headingAt members numbers kinds) ∙ range-length 0 count) (day-outcome m)
 
 -- ---- a day's acct lines
 
@@ -73,6 +75,25 @@ module _ (text : List ℕ) (p count k w : ℕ) (wide : w ≡ k + 6) (members num
         subst Told e m .2 g number line (h .scenarios ∙ sym width) ∙ ap (λ (x : ℕ). dayDue text next g (dayRead number count x members numbers kinds npvs margins extras) line count) width
 
 -- ---- turns
+
+-- what a call says is its turn
+module _ (text : List ℕ) (n k : ℕ) (g : Register) (period : Period) (h : Held g period n k) (d : DayInput) (line count next : ℕ)
+    (before : List ℕ) (r : Reply) (figures : List ℕ) (m : DayMeets period d before r figures) (room : length before ≡ 5 * n)
+    (out : List ℕ) (at : ℕ) (out′ : List ℕ) (end : ℕ) where
+  abbrev after : Register
+  after = step g (Call.day d (5 * g .held .n))
+
+  due-is : dayDue text next g d line count ≡ said (r .outcome) (d .number) line n figures ++ cond (isOver (r .outcome)) [] (daysDue text next (line + 1 + count) after)
+  due-is = day-said n k g period h d line before r figures m room (reportFrom (line + 1 + count) (split LF (drop next text)))
+
+  pub said-turn : Put out at (said (r .outcome) (d .number) line n figures) out′ end
+      → TurnMeets (dayDue text next g d line count) text n k out at out′ (record { over = isOver (r .outcome); next = next; line = line + 1 + count; at = end; period = r .period })
+  said-turn w = by (isOver (r .outcome)) refl
+    where
+      by : (t : Bool) → isOver (r .outcome) ≡ t
+          → TurnMeets (dayDue text next g d line count) text n k out at out′ (record { over = isOver (r .outcome); next = next; line = line + 1 + count; at = end; period = r .period })
+      by true q = ended q (rw (due-is, q, append-nil (said (r .outcome) (d .number) line n figures)) w)
+      by false q = goes-on q after (said (r .outcome) (d .number) line n figures) (day-held n k g period h d line before r figures m room q) w (rw (due-is, q))
 
 module _ {due text before after : List ℕ} {n k at : ℕ} {t : Turn} where
   pub same-due : {due′ : List ℕ} → due′ ≡ due → TurnMeets due text n k before at after t → TurnMeets due′ text n k before at after t

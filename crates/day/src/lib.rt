@@ -1,22 +1,20 @@
 // A day of the month's text: its acct lines are read, the day call is made, and what it says is printed.
 use accounts::Lines;
 use accounts::read_accounts;
-use period::Outcome;
+use answers::is_over;
+use answers::say;
 use period::Period;
 use period::Reply;
-use report::put_bytes;
-use report::put_line;
 use report::put_refused;
-use report::put_rows;
 ghost use mathlib.Core.List.{List};
 ghost use mathlib.Core.Path.{_≡_};
 ghost use Prim.Native.Nat.{_+_, _*_, _≤_, _<_, _^_, ℕ};
 ghost use lib.ListN.{length};
 ghost use Rattle.methodology.specs.Register.{Register};
-ghost use Rattle.report.specs.Put.{Put};
 ghost use Rattle.period.specs.Calls.{DayMeets};
-ghost use Rattle.accounts.specs.Reading.{dayRead, accountsDue, dayDue};
-ghost use Rattle.day.specs.Turns.{Held, TurnMeets, Stands, indexSaid, daySaid, endsAt};
+ghost use Rattle.accounts.specs.AcctLines.{dayRead, accountsDue, dayDue};
+ghost use Rattle.answers.specs.Held.{Held};
+ghost use Rattle.day.specs.Turns.{TurnMeets, Stands};
 
 // What a turn comes to: the report is over, or days go on at index `next`, which is line `line`. `at` is the index after what was printed.
 pub struct Turn {
@@ -55,46 +53,6 @@ fn size_day(
         &extras[..count],
         figures,
     )
-}
-
-// Prints what a day call said; the day line is line `line`.
-fn say_day(
-    outcome: Outcome,
-    number: u64,
-    line: u64,
-    n: usize,
-    figures: &[u64],
-    out: &mut [u8],
-    at: usize,
-) -> usize
-    requires { ⌜ (n ≤ 32) × (5 * n ≤ length (now figures)) ⌝ }
-    requires { ⌜ line + 1 + indexSaid outcome < 2 ^ 64 ⌝ }
-    ensures { λ r. ⌜ Put (now (out .entry)) at (daySaid outcome number line n (now (figures .entry))) (now (out .exit)) r ⌝ }
-{
-    match outcome {
-        Outcome::Sized(total, max) => {
-            let numbers = [number, total, max];
-            let next = put_line(out, at, b"day", &numbers);
-            put_rows(out, next, b"daily", 5, n, figures)
-        }
-        Outcome::Refused(row) => put_refused(out, at, row, line),
-        Outcome::RefusedAt(row, index) => put_refused(out, at, row, line + 1 + index),
-        Outcome::Opened => put_bytes(out, at, b""),
-        Outcome::Closed(_, _, _) => put_bytes(out, at, b""),
-    }
-}
-
-// Whether the outcome of a day call ends the report, as all but an accepted day do.
-fn ends_at(outcome: Outcome) -> bool
-    ensures { λ r. ⌜ r ≡ endsAt outcome ⌝ }
-{
-    match outcome {
-        Outcome::Sized(_, _) => false,
-        Outcome::Refused(_) => true,
-        Outcome::RefusedAt(_, _) => true,
-        Outcome::Opened => true,
-        Outcome::Closed(_, _, _) => true,
-    }
 }
 
 // A day's turn where its acct lines are read and the next line stands at index `next`: the call is made and printed.
@@ -136,9 +94,9 @@ fn sized_turn(
     );
     let outcome = reply.outcome;
     let after = reply.period;
-    let end = say_day(outcome, number, line, n, figures, out, at);
+    let end = say(outcome, number, line, n, figures, out, at);
     Turn {
-        over: ends_at(outcome),
+        over: is_over(outcome),
         next,
         line: line + 1 + count as u64,
         at: end,

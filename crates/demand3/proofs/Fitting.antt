@@ -27,7 +27,7 @@ use Rattle.quotient.specs.Ranges.{greatestTotal}
 use Rattle.quotient.proofs.Bounds.{share-le, cents-le, raw-le}
 use Rattle.validation.proofs.Headings.{bad-heading-le}
 use Rattle.validation.proofs.Opening.{opening-leaves}
-use Rattle.validation.proofs.Day.{sized}
+use Rattle.validation.proofs.Day.{lengths-leave, sized}
 use Rattle.exposure.proofs.MaxTotal.{loss-le-total, max-le-total}
 use Rattle.period.specs.declared.Period.{Period}
 use Rattle.period.specs.declared.Outcome.{Outcome}
@@ -81,7 +81,7 @@ day-row-fits p d room =
     when-fits 2 (not (isOpen (statusOf p))) _ (omega arith)
     (λ e. when-fits 4 (badLengths o d room) _ (omega arith)
     (λ e. when-fits 3 (badDayNumber (p .last) (d .number)) _ (omega arith)
-    (λ f. let few = sized o d room e .few in
+    (λ f. let few = sized o d (lengths-leave o d room e .0) .few in
     at-fits 5 (firstBadHeading (p .n) nobody hs) (ltb (firstBadHeading (p .n) nobody hs) (length hs) || lastMissing (p .n) hs) _ (omega arith) (omega (arith, bad-heading-le (p .n) nobody hs))
     (at-fits 6 (firstWhere badAmount accts) (ltb (firstWhere badAmount accts) (length hs)) _ (omega arith) (omega (arith, first-le badAmount accts, accounts-long (p .k) d))
     (when-fits 7 (eqb (total o accts) 0) Clear (omega arith) (λ e. tt))))))

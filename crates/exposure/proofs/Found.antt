@@ -1,42 +1,34 @@
 -- What the program found of a day is the day's: T and each member's loss, within their bounds, and a Max EUL that is at most T.
 use mathlib.Core.Path.{_≡_, sym, ap, _∙_}
 use mathlib.Core.List.{List}
-use Prim.Native.Nat.{ℕ, _+_, _*_, _≤_, _<_}
+use Prim.Native.Nat.{ℕ, _+_, _≤_, _<_}
 use native.Mathlib.Omega.{arith}
 use lib.IntN.{ℤ}
-use lib.ListN.{length, getD}
+use lib.ListN.{getD}
 use lib.Seq.{getD-take}
 use Rattle.numbers.proofs.Lists.{range-mem, table-at}
 use Rattle.methodology.specs.Account.{Opening, Account}
 use Rattle.methodology.specs.Member.{loss}
 use Rattle.methodology.specs.Day.{total, maxEul}
-use Rattle.methodology.specs.Refusals.{limit}
 use Rattle.validation.specs.Slices.{Lent}
 use Rattle.exposure.specs.declared.day.Losses.{Losses}
 use Rattle.exposure.specs.Cut.{Owners}
-use Rattle.exposure.specs.Day.{Sizable, LossesAre}
-use Rattle.exposure.proofs.Bounds.{lent-limited, total-bound}
+use Rattle.exposure.specs.Day.{LossesAre}
 use Rattle.exposure.proofs.MaxTotal.{loss-le-total, max-le-total}
 
-module _ (o : Opening) (accts : List Account) {holders kinds : List ℕ} {npvs : List ℤ} {margins extras : List ℕ} (lent : Lent (o .k) kinds npvs margins extras accts) (fits : Sizable (o .n) (o .k) holders kinds npvs margins extras) where
-  pub total-few : total o accts ≤ 256 * (3 * limit)
-  total-few =
-      let few : length accts ≤ 256 = omega (arith, lent .kinds-long, fits .within .few) in
-      omega (arith, total-bound limit accts (lent-limited (lent .amounts) (fits .within)) o)
+module _ (o : Opening) (accts : List Account) {holders kinds : List ℕ} {npvs : List ℤ} {margins extras : List ℕ} (lent : Lent (o .k) kinds npvs margins extras accts) (own : Owners holders accts) (r : Losses) (found : LossesAre (o .n) (o .k) holders kinds npvs margins extras r) where
+  pub total-is : r .total ≡ total o accts
+  unfolding total
+  total-is = found .total accts lent own
 
-  module _ (own : Owners holders accts) (r : Losses) (found : LossesAre (o .n) (o .k) holders kinds npvs margins extras r) where
-    pub total-is : r .total ≡ total o accts
-    unfolding total
-    total-is = found .total accts lent own
+  pub loss-at : (i : ℕ) → i < o .n → getD (r .each) i 0 ≡ loss (o .k) accts (1 + i)
+  loss-at i l =
+      sym (getD-take (o .n) (r .each) i 0 l)
+      ∙ ap (λ (x : List ℕ). getD x i 0) (found .each accts lent own)
+      ∙ table-at (loss (o .k) accts) 1 (o .n) i 0 l
 
-    pub loss-at : (i : ℕ) → i < o .n → getD (r .each) i 0 ≡ loss (o .k) accts (1 + i)
-    loss-at i l =
-        sym (getD-take (o .n) (r .each) i 0 l)
-        ∙ ap (λ (x : List ℕ). getD x i 0) (found .each accts lent own)
-        ∙ table-at (loss (o .k) accts) 1 (o .n) i 0 l
+  pub loss-part : (i : ℕ) → i < o .n → getD (r .each) i 0 ≤ r .total
+  loss-part i l = rw (loss-at i l, total-is) (loss-le-total o accts {m = 1 + i} (range-mem 1 (o .n) (omega arith) (omega arith)))
 
-    pub loss-part : (i : ℕ) → i < o .n → getD (r .each) i 0 ≤ r .total
-    loss-part i l = rw (loss-at i l, total-is) (loss-le-total o accts {m = 1 + i} (range-mem 1 (o .n) (omega arith) (omega arith)))
-
-    pub top-part : (top : ℕ) → top ≡ maxEul o accts → top ≤ r .total
-    top-part top e = rw (e, total-is) (max-le-total o accts)
+  pub top-part : (top : ℕ) → top ≡ maxEul o accts → top ≤ r .total
+  top-part top e = rw (e, total-is) (max-le-total o accts)

@@ -1,12 +1,13 @@
 -- Max EUL by rows: each group sum is the EUL of one member alone or a row, and each row is a group sum or 0.
--- A loop over members keeps row g at scenario j as `rowUpto o accts i g j`; `row-none`, `row-in` and `row-out` are its start and its step.
+-- The program adds up one row for each group number, member by member: `rowUpto` after i members, `row-none`, `row-in` and `row-out` its start
+-- and its step.
 use mathlib.Core.Path.{_≡_, refl, ap}
 use mathlib.Core.Bool.{Bool, true, false}
 use mathlib.Core.List.{List, [], _∷_, List·Memᴰ·head as here}
 use Prim.Native.Nat.{ℕ, _+_, _≤_, _<_, max}
 use native.Mathlib.Omega.{arith}
 use lib.Dec.{eqb}
-use lib.IntN.{pos, _+ℤ_, +ℤ-idr}
+use lib.IntN.{ℤ, pos, _+ℤ_, +ℤ-idr}
 use borrow.Author.Tests.{eqb-true, eqb-false, eq-eqb, ne-eqb}
 use Rattle.numbers.specs.Signed.{_⁺}
 use Rattle.numbers.specs.Lists.{range, keep}
@@ -16,7 +17,14 @@ use Rattle.numbers.proofs.Sums.{Σℤ-snoc, greatest-le, greatest-elem}
 use Rattle.methodology.specs.Account.{Opening, Account, members, scenarios}
 use Rattle.methodology.specs.Member.{memberUnder}
 use Rattle.methodology.specs.Day.{groupNumber, groupOf, groupSum, maxEul}
-use Rattle.exposure.specs.Groups.{rowUpto, groupRow}
+
+-- group g's row at scenario j when the first i members have been added: the sum of their EULs under j, of those in group g
+unfoldable pub rowUpto : Opening → List Account → (i g j : ℕ) → ℤ
+rowUpto o accts i g j = Σℤ (keep (λ m. eqb (groupNumber o m) g) (members i)) (λ m. memberUnder accts m j)
+
+-- and when all members have been
+abbrev groupRow : Opening → List Account → (g j : ℕ) → ℤ
+groupRow o accts g j = rowUpto o accts (o .n) g j
 
 -- a row before the first member, and with member i + 1 added where it is in the group, or left out
 module _ (o : Opening) (accts : List Account) (g j : ℕ) where
@@ -34,11 +42,11 @@ module _ (o : Opening) (accts : List Account) (g j : ℕ) where
 
 -- the sum of a member's group: of itself alone, or a row
 module _ (o : Opening) (accts : List Account) (m j : ℕ) where
-  pub group-alone : groupNumber o m ≡ 0 → groupSum o accts m j ≡ memberUnder accts m j
+  group-alone : groupNumber o m ≡ 0 → groupSum o accts m j ≡ memberUnder accts m j
   unfolding groupSum groupOf Σℤ
   group-alone e = rw (eq-eqb (groupNumber o m) 0 e) (+ℤ-idr (memberUnder accts m j))
 
-  pub group-row : (groupNumber o m ≡ 0 → ⊥) → groupSum o accts m j ≡ groupRow o accts (groupNumber o m) j
+  group-row : (groupNumber o m ≡ 0 → ⊥) → groupSum o accts m j ≡ groupRow o accts (groupNumber o m) j
   unfolding groupSum groupOf rowUpto
   group-row n = rw (ne-eqb (groupNumber o m) 0 n)
 

@@ -1,12 +1,12 @@
 mod Decreases
 mod Tallies
-mod Pass
+mod MemberPass
 pub mod Members
 mod Tables
-mod ScenarioRows
-pub mod Groups
+mod RowPass
+mod Groups
 pub mod Bounds
-pub mod Monotone
+mod Monotone
 pub mod MaxTotal
 mod Between
 mod LossPass

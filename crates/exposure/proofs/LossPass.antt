@@ -1,22 +1,25 @@
 -- The pass over the members that finds each one's loss and T. A member's accounts are the part between two cuts.
-use mathlib.Core.Path.{_≡_, refl, sym, ap₂, _∙_}
+use mathlib.Core.Path.{_≡_, refl, sym, ap, ap₂, _∙_}
 use mathlib.Core.List.{List, map, map-append}
-use Prim.Native.Nat.{ℕ, _+_, _-_, _*_, _≤_, _<_}
+use Prim.Native.Nat.{ℕ, _+_, _*_, _≤_, _<_}
 use native.Mathlib.Numerals.{add-one}
 use native.Mathlib.Omega.{arith}
 use lib.IntN.{ℤ}
-use lib.ListN.{length, take, drop, set, length-set, replicate}
+use lib.ListN.{length, take, set, length-set, replicate}
 use lib.Seq.{take-suc-set}
+use Rattle.numbers.specs.Signed.{_⁺}
 use Rattle.numbers.specs.Lists.{range}
 use Rattle.numbers.specs.Sums.{Σ}
+use Rattle.numbers.proofs.Signed.{⁺-abs}
 use Rattle.numbers.proofs.Lists.{upto-more}
 use Rattle.numbers.proofs.Sums.{Σ-snoc}
 use Rattle.methodology.specs.Account.{Account}
 use Rattle.methodology.specs.Member.{loss}
 use Rattle.methodology.specs.Refusals.{limit}
 use Rattle.validation.specs.Slices.{Lent}
-use Rattle.exposure.specs.Cut.{Owners, Cut}
-use Rattle.exposure.specs.Day.{Sizable, LossIs, LossesAre}
+use Rattle.exposure.specs.Scenario.{eulBy}
+use Rattle.exposure.specs.Cut.{Owners, Cut, between}
+use Rattle.exposure.specs.Day.{Sizable, EulIs, LossesAre}
 use Rattle.exposure.proofs.Members.{cut-start, own-part, loss-of}
 
 pub record LossPass (n k : ℕ) (holders kinds : List ℕ) (npvs : List ℤ) (margins extras each : List ℕ) (total at i : ℕ) : Type 0 where
@@ -41,24 +44,23 @@ module _ {n k : ℕ} {holders kinds : List ℕ} {npvs : List ℤ} {margins extra
       }
 
   module _ {each : List ℕ} {total at i : ℕ} (p : LossPass n k holders kinds npvs margins extras each total at i) where
-    -- where the next member's accounts end
-    pub end-le : {end : ℕ} → Cut holders (i + 1 + 1) end → end ≤ length kinds
-    end-le c = omega (arith, c .below .within, s .same)
+    -- the next member's loss e, from its own EUL
+    module _ (end : ℕ) (own : ℤ) (e : ℕ) (le : at ≤ end) (c : Cut holders (i + 1 + 1) end) (l : EulIs k 0 kinds npvs margins extras at end own) (gain : e ≡ own ⁺) where
+      pub sum-small : total + e ≤ 3 * limit * end
+      sum-small = omega (arith, p .bound, l .bound, ⁺-abs own)
 
-    pub sum-small : {end e : ℕ} → at ≤ end → Cut holders (i + 1 + 1) end → LossIs k kinds npvs margins extras at end e → total + e ≤ 3 * limit * end
-    sum-small h c l = omega (arith, p .bound, l .bound)
-
-    module _ (h : i < n) (end e : ℕ) (le : at ≤ end) (c : Cut holders (i + 1 + 1) end) (l : LossIs k kinds npvs margins extras at end e) where
       e-is : (accts : List Account) → Lent k kinds npvs margins extras accts → Owners holders accts → e ≡ loss k accts (i + 1)
-      e-is accts t o = l .is accts t ∙ sym (loss-of k (i + 1) accts (take (end - at) (drop at accts)) (own-part o (p .cut) c))
+      unfolding eulBy
+      e-is accts t o =
+          gain ∙ ap (λ (z : ℤ). z ⁺) (l .is accts t) ∙ sym (loss-of k (i + 1) accts (between at end accts) (own-part o (p .cut) c))
 
-      pub loss-more : LossPass n k holders kinds npvs margins extras (set each i e) (total + e) end (i + 1)
-      loss-more =
+      pub loss-more : i < n → LossPass n k holders kinds npvs margins extras (set each i e) (total + e) end (i + 1)
+      loss-more h =
           record {
             high = omega arith;
             cut = c;
             long = length-set each i e ∙ p .long;
-            bound = sum-small le c l;
+            bound = sum-small;
             each-are =
                 λ accts t o.
                 rw (upto-more i, map-append, ← p .each-are accts t o, ← e-is accts t o, add-one i)

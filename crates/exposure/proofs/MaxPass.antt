@@ -7,28 +7,23 @@ use Prim.Native.Nat.{ℕ, zero, suc, _+_, _-_, _*_, _≤_, _<_, _^_, max}
 use native.Mathlib.Omega.{arith}
 use lib.Dec.{ltb}
 use lib.IntN.{ℤ, pos, natAbs}
-use lib.ListN.{length, getD, take, drop, set, length-set, replicate, getD-replicate, length-replicate}
+use lib.ListN.{length, getD, set, length-set, replicate, getD-replicate, length-replicate}
 use Rattle.numbers.specs.Signed.{_⁺}
 use Rattle.numbers.specs.Lists.{range}
 use Rattle.numbers.specs.Sums.{greatest}
 use Rattle.numbers.proofs.Lists.{at-set, replicate-at, upto-more, mem-range, is-table, table-at, table-length, map-eq}
 use Rattle.numbers.proofs.Sums.{greatest-snoc, greatest-map, greatest-eq}
-use Rattle.methodology.specs.Account.{Opening, Account, scenarios}
+use Rattle.methodology.specs.Account.{Account, scenarios}
 use Rattle.methodology.specs.Member.{memberUnder}
 use Rattle.methodology.specs.Day.{groupNumber}
 use Rattle.methodology.specs.Refusals.{limit}
 use Rattle.validation.specs.Slices.{Lent}
-use Rattle.exposure.specs.Cut.{Owners, Cut}
-use Rattle.exposure.specs.Groups.{rowUpto}
+use Rattle.exposure.specs.Cut.{Owners, Cut, between}
 use Rattle.exposure.specs.Rows.{rowOf, plus, Near, Shape, withRow}
-use Rattle.exposure.specs.Day.{Sizable, RowIs, MaxIs}
-use Rattle.exposure.proofs.Members.{cut-start, own-part, under-of}
-use Rattle.exposure.proofs.Groups.{row-none, row-in, row-out, max-by-rows}
+use Rattle.exposure.specs.Day.{Sizable, RowIs, openingOf, MaxIs}
+use Rattle.exposure.proofs.Members.{cut-start, cut-inside, own-part, under-of}
+use Rattle.exposure.proofs.Groups.{rowUpto, row-none, row-in, row-out, max-by-rows}
 use Rattle.exposure.proofs.Tables.{plus-row, plus-long, plus-bound, row-greatest}
-
--- the period that the group numbers are of
-abbrev pub opened : (k : ℕ) → (groups : List ℕ) → Opening
-opened k groups = record { n = length groups; k = k; groups = groups }
 
 -- rows within a bound
 pub record Rows (most : ℕ) (rows : List (List ℤ)) : Type 0 where
@@ -36,7 +31,7 @@ pub record Rows (most : ℕ) (rows : List (List ℤ)) : Type 0 where
   pub wide : (g : ℕ) → g < 32 → length (getD rows g []) ≡ 16
   pub bound : (g x : ℕ) → g < 32 → natAbs (getD (getD rows g []) x (pos 0)) ≤ most
 
-pub shape : {most : ℕ} {rows : List (List ℤ)} → most ≤ 2 ^ 61 → Rows most rows → Shape rows
+shape : {most : ℕ} {rows : List (List ℤ)} → most ≤ 2 ^ 61 → Rows most rows → Shape rows
 shape h r = record { tall = r .tall; wide = r .wide; near = λ g l. record { at = λ x. omega (arith, r .bound g x l) } }
 
 -- no member passed: all rows are 0
@@ -75,29 +70,29 @@ module _ {most : ℕ} {rows : List (List ℤ)} (row : List ℤ) (more : ℕ) (r 
 
 -- the rows of all groups, when the first i members are passed
 abbrev rowsAt : (k : ℕ) → (groups : List ℕ) → List Account → (i : ℕ) → List (List ℤ)
-rowsAt k groups accts i = map (λ g. rowOf k (rowUpto (opened k groups) accts i g)) (range 1 32)
+rowsAt k groups accts i = map (λ g. rowOf k (rowUpto (openingOf k groups) accts i g)) (range 1 32)
 
 module _ (k : ℕ) (groups : List ℕ) (accts : List Account) where
   rows-none : replicate 32 (replicate 16 (pos 0)) ≡ rowsAt k groups accts 0
   rows-none =
-      is-table (λ g. rowOf k (rowUpto (opened k groups) accts 0 g)) 1 32 [] (replicate 32 (replicate 16 (pos 0))) (length-replicate 32 (replicate 16 (pos 0)))
-      (λ x h. getD-replicate 32 x (replicate 16 (pos 0)) [] h ∙ sym (zeros k (rowUpto (opened k groups) accts 0 (1 + x)) (λ j. row-none (opened k groups) accts (1 + x) j)))
+      is-table (λ g. rowOf k (rowUpto (openingOf k groups) accts 0 g)) 1 32 [] (replicate 32 (replicate 16 (pos 0))) (length-replicate 32 (replicate 16 (pos 0)))
+      (λ x h. getD-replicate 32 x (replicate 16 (pos 0)) [] h ∙ sym (zeros k (rowUpto (openingOf k groups) accts 0 (1 + x)) (λ j. row-none (openingOf k groups) accts (1 + x) j)))
 
   -- member i + 1's row
   abbrev rowNext : (i : ℕ) → List ℤ
   rowNext i = rowOf k (λ j. memberUnder accts (i + 1) j)
 
-  group-next : (i : ℕ) → groupNumber (opened k groups) (i + 1) ≡ getD groups i 0
+  group-next : (i : ℕ) → groupNumber (openingOf k groups) (i + 1) ≡ getD groups i 0
   group-next i = let e : i + 1 - 1 ≡ i = omega arith in ap (λ (n : ℕ). getD groups n 0) e
 
   -- where member i + 1 is not of group g, and where it is
-  stays : (i g : ℕ) → (getD groups i 0 ≡ g → ⊥) → rowOf k (rowUpto (opened k groups) accts i g) ≡ rowOf k (rowUpto (opened k groups) accts (i + 1) g)
-  stays i g n = ap (rowOf k) (fun-ext (λ j. sym (row-out (opened k groups) accts g j i (λ e. n (sym (group-next i) ∙ e)))))
+  stays : (i g : ℕ) → (getD groups i 0 ≡ g → ⊥) → rowOf k (rowUpto (openingOf k groups) accts i g) ≡ rowOf k (rowUpto (openingOf k groups) accts (i + 1) g)
+  stays i g n = ap (rowOf k) (fun-ext (λ j. sym (row-out (openingOf k groups) accts g j i (λ e. n (sym (group-next i) ∙ e)))))
 
-  joins : (i g : ℕ) → getD groups i 0 ≡ g → plus (rowOf k (rowUpto (opened k groups) accts i g)) (rowNext i) ≡ rowOf k (rowUpto (opened k groups) accts (i + 1) g)
+  joins : (i g : ℕ) → getD groups i 0 ≡ g → plus (rowOf k (rowUpto (openingOf k groups) accts i g)) (rowNext i) ≡ rowOf k (rowUpto (openingOf k groups) accts (i + 1) g)
   joins i g e =
-      plus-row k (rowUpto (opened k groups) accts i g) (λ j. memberUnder accts (i + 1) j)
-      ∙ ap (rowOf k) (fun-ext (λ j. sym (row-in (opened k groups) accts g j i (group-next i ∙ e))))
+      plus-row k (rowUpto (openingOf k groups) accts i g) (λ j. memberUnder accts (i + 1) j)
+      ∙ ap (rowOf k) (fun-ext (λ j. sym (row-in (openingOf k groups) accts g j i (group-next i ∙ e))))
 
   rows-by : (i group : ℕ) → getD groups i 0 ≡ group → group ≤ 32 → withRow (rowsAt k groups accts i) group (rowNext i) ≡ rowsAt k groups accts (i + 1)
   unfolding withRow
@@ -113,16 +108,16 @@ module _ (k : ℕ) (groups : List ℕ) (accts : List Account) where
       (λ x n h. table-at now 1 32 x [] h ∙ stays i (1 + x) (λ z. n (omega arith))))
     where
       now : ℕ → List ℤ
-      now g = rowOf k (rowUpto (opened k groups) accts i g)
+      now g = rowOf k (rowUpto (openingOf k groups) accts i g)
 
       next : ℕ → List ℤ
-      next g = rowOf k (rowUpto (opened k groups) accts (i + 1) g)
+      next g = rowOf k (rowUpto (openingOf k groups) accts (i + 1) g)
 
   -- the greatest of all rows
-  rows-greatest : k ≤ 16 → (i : ℕ) → greatest (rowsAt k groups accts i) (λ row. greatest row (λ z. z ⁺)) ≡ greatest (range 1 32) (λ g. greatest (scenarios k) (λ j. rowUpto (opened k groups) accts i g j ⁺))
+  rows-greatest : k ≤ 16 → (i : ℕ) → greatest (rowsAt k groups accts i) (λ row. greatest row (λ z. z ⁺)) ≡ greatest (range 1 32) (λ g. greatest (scenarios k) (λ j. rowUpto (openingOf k groups) accts i g j ⁺))
   rows-greatest h i =
       greatest-map _ (range 1 32) (λ row. greatest row (λ z. z ⁺))
-      ∙ greatest-eq (range 1 32) _ _ (λ g m. row-greatest k (rowUpto (opened k groups) accts i g) h)
+      ∙ greatest-eq (range 1 32) _ _ (λ g m. row-greatest k (rowUpto (openingOf k groups) accts i g) h)
 
 pub record MaxPass (k : ℕ) (groups holders kinds : List ℕ) (npvs : List ℤ) (margins extras : List ℕ) (rows : List (List ℤ)) (top at i : ℕ) : Type 0 where
   pub high : i ≤ length groups
@@ -146,20 +141,17 @@ module _ {k : ℕ} {groups holders kinds : List ℕ} {npvs : List ℤ} {margins 
       }
 
   module _ {rows : List (List ℤ)} {top at i : ℕ} (p : MaxPass k groups holders kinds npvs margins extras rows top at i) where
-    pub end-le : {end : ℕ} → Cut holders (i + 1 + 1) end → end ≤ length kinds
-    end-le c = omega (arith, c .below .within, s .same)
-
     pub rows-shape : Shape rows
-    rows-shape = shape (omega (arith, p .cut .below .within, s .same, s .within .few)) (p .bounded)
+    rows-shape = shape (omega (arith, cut-inside s (p .cut), s .within .few)) (p .bounded)
 
     module _ (end : ℕ) (row : List ℤ) (le : at ≤ end) (c : Cut holders (i + 1 + 1) end) (r : RowIs k kinds npvs margins extras at end row) where
       pub row-near : Near row
-      row-near = record { at = λ x. omega (arith, r .bound x, end-le c, s .within .few) }
+      row-near = record { at = λ x. omega (arith, r .bound x, cut-inside s c, s .within .few) }
 
       row-next : (accts : List Account) → Lent k kinds npvs margins extras accts → Owners holders accts → row ≡ rowNext k groups accts i
       row-next accts l o =
           r .is accts l
-          ∙ ap (rowOf k) (fun-ext (λ j. sym (under-of (i + 1) j accts (take (end - at) (drop at accts)) (own-part o (p .cut) c))))
+          ∙ ap (rowOf k) (fun-ext (λ j. sym (under-of (i + 1) j accts (between at end accts) (own-part o (p .cut) c))))
 
       pub max-more : i < length groups → getD groups i 0 ≤ 32 → (most next : ℕ) → most ≡ greatest row (λ z. z ⁺) → next ≡ max top most
           → MaxPass k groups holders kinds npvs margins extras (withRow rows (getD groups i 0) row) next end (i + 1)
@@ -188,6 +180,6 @@ module _ {k : ℕ} {groups holders kinds : List ℕ} {npvs : List ℤ} {margins 
               (p .top-is accts l o ∙ ap (λ (x : ℕ). greatest (range 1 x) (λ m. greatest (scenarios k) (λ j. memberUnder accts m j ⁺))) n)
               (e ∙ ap (λ (x : List (List ℤ)). greatest x (λ row. greatest row (λ z. z ⁺))) (p .rows-are accts l o)
               ∙ rows-greatest k groups accts (s .scenarios-few) i
-              ∙ ap (λ (x : ℕ). greatest (range 1 32) (λ m. greatest (scenarios k) (λ j. rowUpto (opened k groups) accts x m j ⁺))) n)
-              ∙ sym (max-by-rows (opened k groups) accts 32 (λ m q. let z = mem-range 1 (length groups) q in g (m - 1) (omega arith)));
+              ∙ ap (λ (x : ℕ). greatest (range 1 32) (λ m. greatest (scenarios k) (λ j. rowUpto (openingOf k groups) accts x m j ⁺))) n)
+              ∙ sym (max-by-rows (openingOf k groups) accts 32 (λ m q. let z = mem-range 1 (length groups) q in g (m - 1) (omega arith)));
         }

@@ -15,7 +15,7 @@ use Rattle.methodology.specs.Day.{groupNumber, groupOf, groupSum, maxEul, total
 use Rattle.exposure.proofs.Monotone.{loss-le}
 
 -- a figure summed over a member's group is at most the sum over all members
-pub group-part : (o : Opening) (f : ℕ → ℕ) {m : ℕ} → m ∈ members (o .n) → Σ (groupOf o m) f ≤ Σ (members (o .n)) f
+group-part : (o : Opening) (f : ℕ → ℕ) {m : ℕ} → m ∈ members (o .n) → Σ (groupOf o m) f ≤ Σ (members (o .n)) f
 unfolding groupOf Σ
 group-part o f {m} i = by (eqb (groupNumber o m) 0)
   where
@@ -28,10 +28,10 @@ module _ (o : Opening) (accts : List Account) where
   unfolding total
   loss-le-total i = Σ-elem (loss (o .k) accts) i
 
-  pub under-le-total : {m j : ℕ} → m ∈ members (o .n) → j ∈ scenarios (o .k) → memberUnder accts m j ⁺ ≤ total o accts
+  under-le-total : {m j : ℕ} → m ∈ members (o .n) → j ∈ scenarios (o .k) → memberUnder accts m j ⁺ ≤ total o accts
   under-le-total {m} i l = omega (arith, loss-le (o .k) l accts m, loss-le-total i)
 
-  pub group-le-total : {m j : ℕ} → m ∈ members (o .n) → j ∈ scenarios (o .k) → groupSum o accts m j ⁺ ≤ total o accts
+  group-le-total : {m j : ℕ} → m ∈ members (o .n) → j ∈ scenarios (o .k) → groupSum o accts m j ⁺ ≤ total o accts
   unfolding groupSum total
   group-le-total {m} {j} i l =
       omega (

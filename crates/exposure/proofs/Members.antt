@@ -2,10 +2,11 @@
 -- A loop keeps `Cut members m at`. An inner one finds the end of the part by `below-start` and `below-more`, and `cut-next` is the step.
 use mathlib.Core.Path.{_≡_, sym, ap}
 use mathlib.Core.List.{List, map}
-use Prim.Native.Nat.{ℕ, _+_, _-_, _≤_, _<_}
+use Prim.Native.Nat.{ℕ, _+_, _≤_, _<_}
 use native.Mathlib.Omega.{arith}
 use lib.Dec.{eqb}
-use lib.ListN.{length, getD, take, drop, length-map}
+use lib.IntN.{ℤ}
+use lib.ListN.{length, getD, length-map}
 use borrow.Author.Count as count
 use borrow.Author.Tests.{eq-eqb, ne-eqb}
 use Rattle.numbers.specs.Signed.{_⁺}
@@ -13,15 +14,20 @@ use Rattle.numbers.proofs.Lists.{by-steps, map-at, keep-part}
 use Rattle.methodology.specs.Account.{Account, eulUnder, ownEul}
 use Rattle.methodology.specs.Member.{accountsOf, memberEul, memberUnder, memberOwn, loss}
 use Rattle.validation.specs.Slices.{Rising, none}
-use Rattle.exposure.specs.Cut.{Owners, Below, Cut}
+use Rattle.exposure.specs.Cut.{Owners, Below, Cut, between}
+use Rattle.exposure.specs.Day.{Sizable}
 
 -- rising one by one is rising
-pub rising-le : {members : List ℕ} → Rising members → (i j : ℕ) → i ≤ j → j < length members → getD members i 0 ≤ getD members j 0
+rising-le : {members : List ℕ} → Rising members → (i j : ℕ) → i ≤ j → j < length members → getD members i 0 ≤ getD members j 0
 rising-le {members} r i j h k = by-steps (λ n. getD members i 0 ≤ getD members n 0) i j h (omega arith) (λ n l m f. omega (arith, r .next n (omega arith)))
 
 -- every member is at least 1
 pub cut-start : {members : List ℕ} → Rising members → Cut members 1 0
 cut-start r = record { below = record { within = omega arith; before = λ i h. omega arith }; from = λ i h. r .least i }
+
+-- a cut is within the slices
+pub cut-inside : {n k m at : ℕ} {members kinds : List ℕ} {npvs : List ℤ} {margins extras : List ℕ} → Sizable n k members kinds npvs margins extras → Cut members m at → at ≤ length kinds
+cut-inside s c = omega (arith, c .below .within, s .same)
 
 -- the end of m's part: none of it yet; one of it more
 pub below-start : {members : List ℕ} {m at : ℕ} → Cut members m at → Below members (m + 1) at
@@ -47,13 +53,13 @@ pub owners : (accts : List Account) → Owners (map (λ a. a .heading .member) a
 owners accts = record { members-long = length-map accts _; member-at = λ i h. sym (map-at (λ a. a .heading .member) accts i none 0 h) }
 
 -- m's accounts stand between its cut and the next
-pub part-le : {members : List ℕ} {m a b : ℕ} → Cut members m a → Cut members (m + 1) b → a ≤ b
+part-le : {members : List ℕ} {m a b : ℕ} → Cut members m a → Cut members (m + 1) b → a ≤ b
 part-le {members} {m} {a} {b} c d =
     let no-way : ¬ (b < a) = λ h. omega (arith, c .below .before b h, d .from b (omega arith) (omega arith)) in
     omega arith
 
 pub own-part : {members : List ℕ} {accts : List Account} {m a b : ℕ} → Owners members accts → Cut members m a → Cut members (m + 1) b
-    → accountsOf m accts ≡ take (b - a) (drop a accts)
+    → accountsOf m accts ≡ between a b accts
 unfolding accountsOf
 own-part {members} {accts} {m} {a} {b} o c d =
     let n : length members ≡ length accts = o .members-long in
@@ -70,7 +76,7 @@ pub under-of : (m j : ℕ) (accts own : List Account) → accountsOf m accts ≡
 unfolding memberUnder
 under-of m j accts own e = ap (memberEul (eulUnder j)) e
 
-pub own-of : (k m : ℕ) (accts own : List Account) → accountsOf m accts ≡ own → memberOwn k accts m ≡ memberEul (ownEul k) own
+own-of : (k m : ℕ) (accts own : List Account) → accountsOf m accts ≡ own → memberOwn k accts m ≡ memberEul (ownEul k) own
 unfolding memberOwn
 own-of k m accts own e = ap (memberEul (ownEul k)) e
 

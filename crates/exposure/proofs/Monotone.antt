@@ -16,7 +16,7 @@ use Rattle.methodology.specs.Account.{Account, scenarios, decrease, eulOf, eulU
 use Rattle.methodology.specs.Member.{accountsOf, isHouse, isR, isAorU, isClient, houseEul, halfOfClients, twoLargestOfR, partB, partC, memberEul, memberUnder, memberOwn, loss}
 
 -- a member's EUL: the house, the half, the two largest and part c each grow
-pub member-mono : (accts : List Account) (f g : Account → ℤ) → ((a : Account) → a ∈ accts → f a ≤ℤ g a) → memberEul f accts ≤ℤ memberEul g accts
+member-mono : (accts : List Account) (f g : Account → ℤ) → ((a : Account) → a ∈ accts → f a ≤ℤ g a) → memberEul f accts ≤ℤ memberEul g accts
 unfolding memberEul houseEul partB halfOfClients twoLargestOfR partC
 member-mono accts f g h =
     let positive : (t : Account → Bool) (a : Account) → a ∈ keep t accts → f a ⁺ ≤ g a ⁺ = λ t a m. ⁺-mono (h a (mem-keep t accts m .0)) in
@@ -47,15 +47,15 @@ eul-mono fall fall′ margin extra h =
     )
 
 module _ (k : ℕ) {j : ℕ} (i : j ∈ scenarios k) where
-  pub decrease-le : (row : List ℤ) → decrease row j ≤ largestDecrease k row
+  decrease-le : (row : List ℤ) → decrease row j ≤ largestDecrease k row
   unfolding largestDecrease
   decrease-le row = greatest-elem (decrease row) i
 
-  pub account-le : (a : Account) → eulUnder j a ≤ℤ ownEul k a
+  account-le : (a : Account) → eulUnder j a ≤ℤ ownEul k a
   unfolding eulUnder ownEul
   account-le a = eul-mono _ _ (a .margin) (a .extra) (decrease-le (a .npvs))
 
-  pub member-le : (accts : List Account) (m : ℕ) → memberUnder accts m j ≤ℤ memberOwn k accts m
+  member-le : (accts : List Account) (m : ℕ) → memberUnder accts m j ≤ℤ memberOwn k accts m
   unfolding memberUnder memberOwn
   member-le accts m = member-mono (accountsOf m accts) (eulUnder j) (ownEul k) (λ a l. account-le a)
 

@@ -37,10 +37,6 @@ module _ (k : ℕ) (f : ℕ → ℤ) where
   unfolding rowOf
   row-at x h = table-at (λ y. cond (ltb y k) (f (suc y)) (pos 0)) 0 16 x (pos 0) h ∙ ap (λ (y : ℕ). cond (ltb y k) (f (suc y)) (pos 0)) (zero-add x)
 
-  pub row-long : length (rowOf k f) ≡ 16
-  unfolding rowOf
-  row-long = table-length (λ y. cond (ltb y k) (f (suc y)) (pos 0)) 0 16
-
 -- a row of zeros, filled up to the last scenario
 pub is-row : (k : ℕ) (f : ℕ → ℤ) {l : List ℤ} → Filled 16 (λ x. f (suc x)) (pos 0) (replicate 16 (pos 0)) k l → l ≡ rowOf k f
 unfolding rowOf

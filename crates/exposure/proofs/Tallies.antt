@@ -6,10 +6,10 @@ use Prim.Native.Nat.{ℕ, _+_, _-_, _*_, _/_, _≤_, _<_, min, max}
 use native.Mathlib.Decide.{ℕ-discrete}
 use native.Mathlib.Nat.{add-assoc}
 use native.Mathlib.Omega.{arith}
-use lib.Dec.{leb, ltb, eqb}
+use lib.Dec.{ltb, eqb}
 use lib.IntN.{ℤ, pos, natAbs, _+ℤ_, +ℤ-assoc, +ℤ-idr}
 use lib.ListN.{take}
-use borrow.Author.Tests.{leb-true, leb-false, ltb-true, ltb-false, ne-eqb}
+use borrow.Author.Tests.{ltb-true, ltb-false, ne-eqb}
 use mir.Syntax.{w64}
 use mir.Val.{SFits}
 use Rattle.numbers.specs.Signed.{_⁺}
@@ -36,28 +36,35 @@ pub part-le : (f : Bool) (g : ℕ) → cond f g 0 ≤ g
 part-le true g = omega arith
 part-le false g = omega arith
 
--- the two largest of kind R, with g in its place
-top : (f s g l w : ℕ) → s ≤ f → f < g → max (g + f) (max (g + l) w) ≡ max (f + s) (max (f + max g l) (max (g + l) w))
-top f s g l w h k = omega arith
+-- the two largest of kind R, f and s, with g among them; l and w are the largest and the two largest of what follows. By where g stands
+above : (f s g l w : ℕ) → s ≤ f → f < g → max (g + f) (max (g + l) w) ≡ max (f + s) (max (f + max g l) (max (g + l) w))
+above f s g l w h k = omega arith
 
-middle : (f s g l w : ℕ) → s ≤ g → g ≤ f → max (f + g) (max (f + l) w) ≡ max (f + s) (max (f + max g l) (max (g + l) w))
-middle f s g l w h k = omega arith
+between : (f s g l w : ℕ) → s ≤ g → g ≤ f → max (f + g) (max (f + l) w) ≡ max (f + s) (max (f + max g l) (max (g + l) w))
+between f s g l w h k = omega arith
 
-low : (f s g l w : ℕ) → s ≤ f → g ≤ s → max (f + s) (max (f + l) w) ≡ max (f + s) (max (f + max g l) (max (g + l) w))
-low f s g l w h k = omega arith
+under : (f s g l w : ℕ) → s ≤ f → g ≤ s → max (f + s) (max (f + l) w) ≡ max (f + s) (max (f + max g l) (max (g + l) w))
+under f s g l w h k = omega arith
 
-below : (f s g l w : ℕ) → s ≤ f → g ≤ f → max (f + max s g) (max (f + l) w) ≡ max (f + s) (max (f + max g l) (max (g + l) w))
-below f s g l w h k = by (leb s g) refl
+two-with : (f s g l w : ℕ) → s ≤ f → max (max f g + max s (min f g)) (max (max f g + l) w) ≡ max (f + s) (max (f + max g l) (max (g + l) w))
+two-with f s g l w h = by (ltb f g) (ltb s g) refl refl
   where
-    by : (t : Bool) → leb s g ≡ t → max (f + max s g) (max (f + l) w) ≡ max (f + s) (max (f + max g l) (max (g + l) w))
-    by true e =
-        let le = leb-true s g e in
-        let m : max s g ≡ g = omega arith in
-        rw m (middle f s g l w le k)
-    by false e =
-        let lt = leb-false s g e in
-        let m : max s g ≡ s = omega arith in
-        rw m (low f s g l w h (omega arith))
+    by : (a b : Bool) → ltb f g ≡ a → ltb s g ≡ b → max (max f g + max s (min f g)) (max (max f g + l) w) ≡ max (f + s) (max (f + max g l) (max (g + l) w))
+    by true b p q =
+        let k = ltb-true f g p in
+        let m₁ : max f g ≡ g = omega arith in
+        let m₂ : max s (min f g) ≡ f = omega arith in
+        rw (m₁, m₂) (above f s g l w h k)
+    by false true p q =
+        let k = ltb-false f g p in
+        let m₁ : max f g ≡ f = omega arith in
+        let m₂ : max s (min f g) ≡ g = omega (arith, ltb-true s g q) in
+        rw (m₁, m₂) (between f s g l w (omega (arith, ltb-true s g q)) k)
+    by false false p q =
+        let k = ltb-false s g q in
+        let m₁ : max f g ≡ f = omega arith in
+        let m₂ : max s (min f g) ≡ s = omega arith in
+        rw (m₁, m₂) (under f s g l w h k)
 
 module _ (t : Tally) (e : ℤ) (s : Small t) (b : natAbs e ≤ 2 * limit) where
   pub sum-fits : SFits w64 (t .house +ℤ e)
@@ -107,33 +114,6 @@ module _ (t : Tally) (e : ℤ) (s : Small t) (b : natAbs e ≤ 2 * limit) where
             r;
       }
 
-  -- kind R, by where its EUL stands
-  abbrev ranked : (first second : ℕ) → Tally
-  ranked f g = record { house = t .house; clients = t .clients + e ⁺; first = f; second = g; others = t .others }
-
-  over-R :
-      (f g : ℕ) → ((l w : ℕ) → max (f + g) (max (f + l) w) ≡ max (t .first + t .second) (max (t .first + max (e ⁺) l) (max (e ⁺ + l) w)))
-      → (eul : Account → ℤ) (a : Account) (rest : List Account) → a .heading .kind ≡ kindR → eul a ≡ e → eulOver (ranked f g) eul rest ≡ eulOver t eul (a ∷ rest)
-  unfolding eulOver houseEul twoLargestOfR largestOfR partC Σ greatest
-  over-R f g h eul a rest q r =
-      let rs = map (λ (x : Account). eul x ⁺) (keep isR rest) in
-      rw (keep-cons-skip isHouse a rest (rw q), keep-cons isClient a rest (rw q), keep-cons isR a rest (rw q), keep-cons-skip isAorU a rest (rw q), r, two-largest (e ⁺) rs)
-      (cc (add-assoc (t .clients) (e ⁺) (Σ (keep isClient rest) (λ x. eul x ⁺)), h (greatest rs (λ x. x)) (Σ (take 2 (descending rs)) (λ x. x))))
-
-  first : t .first < e ⁺ → Counted t kindR e (ranked (e ⁺) (t .first))
-  first h =
-      record {
-        held = λ n g. record { all = omega (arith, g .all, gain-le e b); apart = omega (arith, g .apart, g .order); order = omega arith };
-        over = over-R (e ⁺) (t .first) (λ l w. top (t .first) (t .second) (e ⁺) l w (s .order) h);
-      }
-
-  second : e ⁺ ≤ t .first → Counted t kindR e (ranked (t .first) (max (t .second) (e ⁺)))
-  second h =
-      record {
-        held = λ n g. record { all = omega (arith, g .all, gain-le e b); apart = omega (arith, g .apart); order = omega (arith, g .order) };
-        over = over-R (t .first) (max (t .second) (e ⁺)) (λ l w. below (t .first) (t .second) (e ⁺) l w (s .order) h);
-      }
-
   -- any client, where r is its positive EUL if it is of kind R, else 0
   abbrev with-client : (r : ℕ) → Tally
   with-client r =
@@ -145,19 +125,20 @@ module _ (t : Tally) (e : ℤ) (s : Small t) (b : natAbs e ≤ 2 * limit) where
         others = t .others + (e ⁺ - r);
       }
 
-  client-R : (f : Bool) → ltb (t .first) (e ⁺) ≡ f → Counted t kindR e (with-client (e ⁺))
-  client-R true q =
-      let h = ltb-true (t .first) (e ⁺) q in
-      let m₁ : max (t .first) (e ⁺) ≡ e ⁺ = omega arith in
-      let m₂ : max (t .second) (min (t .first) (e ⁺)) ≡ t .first = omega (arith, s .order) in
-      let m₃ : t .others + (e ⁺ - e ⁺) ≡ t .others = omega arith in
-      rw (m₁, m₂, m₃) (first h)
-  client-R false q =
-      let h = ltb-false (t .first) (e ⁺) q in
-      let m₁ : max (t .first) (e ⁺) ≡ t .first = omega arith in
-      let m₂ : min (t .first) (e ⁺) ≡ e ⁺ = omega arith in
-      let m₃ : t .others + (e ⁺ - e ⁺) ≡ t .others = omega arith in
-      rw (m₁, m₂, m₃) (second h)
+  over-R : (eul : Account → ℤ) (a : Account) (rest : List Account) → a .heading .kind ≡ kindR → eul a ≡ e → eulOver (with-client (e ⁺)) eul rest ≡ eulOver t eul (a ∷ rest)
+  unfolding eulOver houseEul twoLargestOfR largestOfR partC Σ greatest
+  over-R eul a rest q r =
+      let rs = map (λ (x : Account). eul x ⁺) (keep isR rest) in
+      let same : t .others + (e ⁺ - e ⁺) ≡ t .others = omega arith in
+      rw (keep-cons-skip isHouse a rest (rw q), keep-cons isClient a rest (rw q), keep-cons isR a rest (rw q), keep-cons-skip isAorU a rest (rw q), r, two-largest (e ⁺) rs, same)
+      (cc (add-assoc (t .clients) (e ⁺) (Σ (keep isClient rest) (λ x. eul x ⁺)), two-with (t .first) (t .second) (e ⁺) (greatest rs (λ x. x)) (Σ (take 2 (descending rs)) (λ x. x)) (s .order)))
+
+  client-R : Counted t kindR e (with-client (e ⁺))
+  client-R =
+      record {
+        held = λ n g. record { all = omega (arith, g .all, gain-le e b); apart = omega (arith, g .apart); order = omega (arith, g .order) };
+        over = over-R;
+      }
 
   client-other : (k : ℕ) → k ≤ kindU → (k ≡ kindH → ⊥) → (k ≡ kindR → ⊥) → Counted t k e (with-client 0)
   client-other k h h₀ h₁ =
@@ -172,7 +153,7 @@ module _ (t : Tally) (e : ℤ) (s : Small t) (b : natAbs e ≤ 2 * limit) where
       by : Dec (k ≡ kindR) → Counted t k e (with-client r)
       by (yes p) =
           let z : r ≡ e ⁺ = q ∙ rw p in
-          rw (p, z) (client-R (ltb (t .first) (e ⁺)) refl)
+          rw (p, z) client-R
       by (no n) =
           let z : r ≡ 0 = q ∙ rw (ne-eqb k kindR n) in
           rw z (client-other k h h₀ n)

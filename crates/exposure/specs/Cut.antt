@@ -1,10 +1,14 @@
 -- Where one member's accounts begin and end among a day's, whose members rise: at two indices, found one after the other.
 use mathlib.Core.Path.{_≡_}
 use mathlib.Core.List.{List}
-use Prim.Native.Nat.{ℕ, _≤_, _<_}
-use lib.ListN.{length, getD}
+use Prim.Native.Nat.{ℕ, _-_, _≤_, _<_}
+use lib.ListN.{length, getD, take, drop}
 use Rattle.methodology.specs.Account.{Account}
 use Rattle.validation.specs.Slices.{none}
+
+-- the elements from index a to index b - 1
+abbrev pub between : {A : Type 0} → (a b : ℕ) → List A → List A
+between a b xs = take (b - a) (drop a xs)
 
 -- The accounts whose members the slice holds.
 pub record Owners (members : List ℕ) (accts : List Account) : Type 0 where

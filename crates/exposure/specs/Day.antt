@@ -3,16 +3,16 @@ use mathlib.Core.Path.{_≡_}
 use mathlib.Core.List.{List, map}
 use Prim.Native.Nat.{ℕ, _-_, _*_, _≤_}
 use lib.IntN.{ℤ, pos, natAbs}
-use lib.ListN.{length, getD, take, drop}
-use Rattle.numbers.specs.Signed.{_⁺}
+use lib.ListN.{length, getD, take}
 use Rattle.numbers.specs.Sums.{Σ}
-use Rattle.methodology.specs.Account.{Account, members, eulUnder, ownEul}
+use Rattle.methodology.specs.Account.{Opening, Account, members, eulUnder}
 use Rattle.methodology.specs.Member.{memberEul, loss}
 use Rattle.methodology.specs.Day.{maxEul}
 use Rattle.methodology.specs.Refusals.{limit}
 use Rattle.validation.specs.Slices.{Lent, Within, Rising}
 use Rattle.exposure.specs.declared.day.Losses.{Losses}
-use Rattle.exposure.specs.Cut.{Owners}
+use Rattle.exposure.specs.Scenario.{eulBy}
+use Rattle.exposure.specs.Cut.{Owners, between}
 use Rattle.exposure.specs.Rows.{rowOf}
 
 -- slices of a day of a period with n members and k scenarios, as rows 1 and 4 to 6 of the refusal table leave them
@@ -23,14 +23,14 @@ pub record Sizable (n k : ℕ) (holders kinds : List ℕ) (npvs : List ℤ) (mar
   pub members-few : n ≤ 32
   pub scenarios-few : k ≤ 16
 
--- the accounts from index a to index b - 1: a member's loss
-pub record LossIs (k : ℕ) (kinds : List ℕ) (npvs : List ℤ) (margins extras : List ℕ) (a b : ℕ) (r : ℕ) : Type 0 where
-  pub is : (accts : List Account) → Lent k kinds npvs margins extras accts → r ≡ memberEul (ownEul k) (take (b - a) (drop a accts)) ⁺
-  pub bound : r ≤ 3 * limit * (b - a)
+-- the accounts from index a to index b - 1, a member's: its EUL under scenario j, or its own where j is 0
+pub record EulIs (k j : ℕ) (kinds : List ℕ) (npvs : List ℤ) (margins extras : List ℕ) (a b : ℕ) (r : ℤ) : Type 0 where
+  pub is : (accts : List Account) → Lent k kinds npvs margins extras accts → r ≡ memberEul (eulBy k j) (between a b accts)
+  pub bound : natAbs r ≤ 3 * limit * (b - a)
 
--- and its EULs by scenario
+-- its EULs by scenario
 pub record RowIs (k : ℕ) (kinds : List ℕ) (npvs : List ℤ) (margins extras : List ℕ) (a b : ℕ) (r : List ℤ) : Type 0 where
-  pub is : (accts : List Account) → Lent k kinds npvs margins extras accts → r ≡ rowOf k (λ j. memberEul (eulUnder j) (take (b - a) (drop a accts)))
+  pub is : (accts : List Account) → Lent k kinds npvs margins extras accts → r ≡ rowOf k (λ j. memberEul (eulUnder j) (between a b accts))
   pub long : length r ≡ 16
   pub bound : (x : ℕ) → natAbs (getD r x (pos 0)) ≤ 3 * limit * (b - a)
 
@@ -39,8 +39,11 @@ pub record LossesAre (n k : ℕ) (holders kinds : List ℕ) (npvs : List ℤ) (m
   pub each : (accts : List Account) → Lent k kinds npvs margins extras accts → Owners holders accts → take n (r .each) ≡ map (loss k accts) (members n)
   pub total : (accts : List Account) → Lent k kinds npvs margins extras accts → Owners holders accts → r .total ≡ Σ (members n) (loss k accts)
 
+-- the opening that these group numbers are of
+abbrev pub openingOf : (k : ℕ) → (groups : List ℕ) → Opening
+openingOf k groups = record { n = length groups; k = k; groups = groups }
+
 -- Max EUL
 pub record MaxIs (k : ℕ) (groups holders kinds : List ℕ) (npvs : List ℤ) (margins extras : List ℕ) (r : ℕ) : Type 0 where
   pub is :
-      (accts : List Account) → Lent k kinds npvs margins extras accts → Owners holders accts
-      → r ≡ maxEul (record { n = length groups; k = k; groups = groups }) accts
+      (accts : List Account) → Lent k kinds npvs margins extras accts → Owners holders accts → r ≡ maxEul (openingOf k groups) accts

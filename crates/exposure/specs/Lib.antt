@@ -4,5 +4,4 @@ pub mod Tally
 pub mod Member
 pub mod Rows
 pub mod Cut
-pub mod Groups
 pub mod Day

@@ -2,25 +2,15 @@
 use mathlib.Core.Path.{_≡_}
 use mathlib.Core.Bool.{cond}
 use mathlib.Core.List.{List, [], map}
-use Prim.Native.Nat.{ℕ, zero, suc, _*_, _≤_, _<_, _^_}
+use Prim.Native.Nat.{ℕ, zero, suc, _≤_, _<_, _^_}
 use lib.Dec.{ltb}
 use lib.IntN.{ℤ, pos, natAbs, _+ℤ_}
 use lib.ListN.{length, getD, set}
 use Rattle.numbers.specs.Lists.{range}
-use Rattle.methodology.specs.Account.{Account, eulUnder}
-use Rattle.methodology.specs.Member.{memberEul}
-use Rattle.methodology.specs.Refusals.{limit}
-use Rattle.validation.specs.Slices.{Lent}
 
 -- a row of 16: f under scenarios 1 to k, then 0. Scenario j is at index j - 1.
 unfoldable pub rowOf : (k : ℕ) → (f : (j : ℕ) → ℤ) → List ℤ
 rowOf k f = map (λ x. cond (ltb x k) (f (suc x)) (pos 0)) (range 0 16)
-
--- the EULs of a member whose accounts the slices hold
-pub record ScenarioRow (k : ℕ) (kinds : List ℕ) (npvs : List ℤ) (margins extras : List ℕ) (r : List ℤ) : Type 0 where
-  pub is : (accts : List Account) → Lent k kinds npvs margins extras accts → r ≡ rowOf k (λ j. memberEul (eulUnder j) accts)
-  pub long : length r ≡ 16
-  pub bound : (x : ℕ) → natAbs (getD r x (pos 0)) ≤ 3 * limit * length kinds
 
 -- far from the ends of 64 bits: two such numbers may be added
 pub record Near (row : List ℤ) : Type 0 where

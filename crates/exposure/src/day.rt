@@ -4,13 +4,12 @@ use crate::member::member_eul;
 use crate::rows::add_row;
 use crate::rows::row_greatest;
 use crate::rows::rows_greatest;
-use crate::rows::scenario_row;
 use numbers::greater;
 ghost use Prim.Native.Nat.{ℕ, _+_, _≤_, _<_};
 ghost use lib.ListN.{length, getD};
 ghost use Rattle.validation.specs.Slices.{Within, Rising};
 ghost use Rattle.exposure.specs.Cut.{Cut};
-ghost use Rattle.exposure.specs.Day.{Sizable, LossIs, RowIs, LossesAre, MaxIs};
+ghost use Rattle.exposure.specs.Day.{Sizable, EulIs, RowIs, LossesAre, MaxIs};
 
 // The end of member m's accounts, which start at `at`.
 fn end_of(members: &[u64], at: usize, m: u64) -> usize
@@ -27,33 +26,33 @@ fn end_of(members: &[u64], at: usize, m: u64) -> usize
     end
 }
 
-// The loss of a member whose accounts are those from a to b.
-fn loss_between(
+// The EUL of a member whose accounts are those from a to b: under scenario j, or its own where j is 0.
+fn eul_between(
     kinds: &[u64],
     npvs: &[i64],
     margins: &[u64],
     extras: &[u64],
     k: usize,
+    j: usize,
     a: usize,
     b: usize,
-) -> u64
-    requires { ⌜ Within k (now kinds) (now npvs) (now margins) (now extras) × (k ≤ 16) × (a ≤ b) × (b ≤ length (now kinds)) ⌝ }
-    ensures { λ r. ⌜ LossIs k (now (kinds .entry)) (now (npvs .entry)) (now (margins .entry)) (now (extras .entry)) a b r ⌝ }
+) -> i64
+    requires { ⌜ Within k (now kinds) (now npvs) (now margins) (now extras) × (k ≤ 16) × (j ≤ k) × (a ≤ b) × (b ≤ length (now kinds)) ⌝ }
+    ensures { λ r. ⌜ EulIs k j (now (kinds .entry)) (now (npvs .entry)) (now (margins .entry)) (now (extras .entry)) a b r ⌝ }
 {
     let x = a * (k + 1);
     let y = b * (k + 1);
-    let own = member_eul(
+    member_eul(
         &kinds[a..b],
         &npvs[x..y],
         &margins[a..b],
         &extras[a..b],
         k,
-        0,
-    );
-    gain(own)
+        j,
+    )
 }
 
-// The EULs by scenario of a member whose accounts are those from a to b.
+// The EULs by scenario of a member whose accounts are those from a to b; 0 past the last scenario.
 fn row_between(
     kinds: &[u64],
     npvs: &[i64],
@@ -66,12 +65,16 @@ fn row_between(
     requires { ⌜ Within k (now kinds) (now npvs) (now margins) (now extras) × (k ≤ 16) × (a ≤ b) × (b ≤ length (now kinds)) ⌝ }
     ensures { λ r. ⌜ RowIs k (now (kinds .entry)) (now (npvs .entry)) (now (margins .entry)) (now (extras .entry)) a b r ⌝ }
 {
-    let x = a * (k + 1);
-    let y = b * (k + 1);
-    scenario_row(&kinds[a..b], &npvs[x..y], &margins[a..b], &extras[a..b], k)
+    let mut row = [0i64; 16];
+    let mut j: usize = 0;
+    while j < k {
+        row[j] = eul_between(kinds, npvs, margins, extras, k, j + 1, a, b);
+        j += 1;
+    }
+    row
 }
 
-// Each member's loss, 0 past the last member, and their sum T.
+// Each member's loss, member 1's first, and their sum T.
 pub struct Losses {
     pub each: [u64; 32],
     pub total: u64,
@@ -95,7 +98,8 @@ pub fn member_losses(
     let mut i: usize = 0;
     while i < n {
         let end = end_of(members, at, i as u64 + 1);
-        let e = loss_between(kinds, npvs, margins, extras, k, at, end);
+        let own = eul_between(kinds, npvs, margins, extras, k, 0, at, end);
+        let e = gain(own);
         each[i] = e;
         total += e;
         at = end;

@@ -1,6 +1,8 @@
 // A member's EUL, in one pass over its accounts: no account's EUL is kept.
 use crate::account::eul;
 use crate::account::fall;
+use methodology::KIND_H;
+use methodology::KIND_R;
 use numbers::greater;
 use numbers::lesser;
 ghost use mathlib.Core.Path.{_≡_};
@@ -33,7 +35,7 @@ fn half_up(x: u64) -> u64
 fn only_of_r(kind: u64, g: u64) -> u64
     ensures { λ r. ⌜ r ≡ cond (eqb kind kindR) g 0 ⌝ }
 {
-    if kind == 1 { g } else { 0 }
+    if kind == KIND_R { g } else { 0 }
 }
 
 // What the accounts passed so far come to: the house EUL with its sign; the positive EULs of all clients; the two largest of kind R;
@@ -58,7 +60,7 @@ impl Tally {
         let first = self.first;
         let second = self.second;
         let others = self.others;
-        if kind == 0 {
+        if kind == KIND_H {
             return Tally {
                 house: house + eul,
                 clients,

@@ -1,34 +1,12 @@
-// EULs by scenario: a member's row, group rows, and the greatest of them.
+// Rows of EULs by scenario: one added to that of its group, and the greatest of them.
 use crate::member::gain;
-use crate::member::member_eul;
 use numbers::greater;
 ghost use mathlib.Core.Path.{_≡_};
 ghost use Prim.Native.Nat.{_≤_};
 ghost use lib.ListN.{length};
 ghost use Rattle.numbers.specs.Signed.{_⁺};
 ghost use Rattle.numbers.specs.Sums.{greatest};
-ghost use Rattle.validation.specs.Slices.{Within};
-ghost use Rattle.exposure.specs.Rows.{ScenarioRow, Near, Shape, Summable, plus, withRow};
-
-// A member's EULs under each scenario, from its parts of the day's slices; 0 past the last scenario.
-pub fn scenario_row(
-    kinds: &[u64],
-    npvs: &[i64],
-    margins: &[u64],
-    extras: &[u64],
-    k: usize,
-) -> [i64; 16]
-    requires { ⌜ Within k (now kinds) (now npvs) (now margins) (now extras) × (k ≤ 16) ⌝ }
-    ensures { λ r. ⌜ ScenarioRow k (now (kinds .entry)) (now (npvs .entry)) (now (margins .entry)) (now (extras .entry)) r ⌝ }
-{
-    let mut row = [0i64; 16];
-    let mut j: usize = 0;
-    while j < k {
-        row[j] = member_eul(kinds, npvs, margins, extras, k, j + 1);
-        j += 1;
-    }
-    row
-}
+ghost use Rattle.exposure.specs.Rows.{Near, Shape, Summable, plus, withRow};
 
 // The sum of two rows, scenario by scenario.
 fn added(a: [i64; 16], b: [i64; 16]) -> [i64; 16]

@@ -24,11 +24,11 @@ due-more zero n = absurd (n refl)
 due-more (suc left) n = refl
 
 -- what a reader answers
-pub row-none : (o : Option (List ℤ)) (next : ℕ) (row : List ℤ) → o ≡ none → RowIs o next row 0
+pub row-none : {A : Type 0} (o : Option (List A)) (next : ℕ) (row : List A) → o ≡ none → RowIs o next row 0
 unfolding RowIs
 row-none o next row e = rw e refl
 
-pub row-some : (o : Option (List ℤ)) (next : ℕ) (row : List ℤ) (r : ℕ) → o ≡ some row → r ≡ next → RowIs o next row r
+pub row-some : {A : Type 0} (o : Option (List A)) (next : ℕ) (row : List A) (r : ℕ) → o ≡ some row → r ≡ next → RowIs o next row r
 unfolding RowIs
 row-some o next row r e k = rw e (k, refl)
 

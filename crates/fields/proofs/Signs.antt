@@ -17,7 +17,7 @@ use borrow.Author.Tests.{eqb-true, eq-eqb, ne-eqb}
 use Rattle.numbers.specs.Lists.{firstWhere}
 use Rattle.numbers.proofs.Signed.{abs-is, neg, fits-abs, back}
 use Rattle.methodology.specs.Text.{numberOf, below0, above0, signedOf}
-use Rattle.fields.specs.declared.Natural.the-variants.{Good, Bad}
+use Rattle.fields.specs.declared.Natural.{Natural}
 use Rattle.fields.specs.Fields.{stops, size, front, ender, numberAt, told, minusOf, valueOf, valueAt}
 use Rattle.fields.proofs.Fronts.{ended}
 use Rattle.fields.proofs.Digits.{number-bound}
@@ -116,15 +116,16 @@ signed-some zero v h = refl
 signed-some (suc m) zero h = absurd (omega arith)
 signed-some (suc m) (suc v) h = rw (ne-eqb (suc v) 0 (λ e. omega arith), ne-eqb (suc m) 0 (λ e. omega arith))
 
-told-bad : (n : Option ℕ) (m : ℕ) → Bad ≡ told n m → n ≡ none
+-- the next index tells whether there is a number
+told-none : (n : Option ℕ) (m : ℕ) → told n (m + 1) .next ≡ 0 → n ≡ none
 unfolding told
-told-bad none m e = refl
-told-bad (some w) m e = absurd (let z : _≡_ {A = ℕ} 0 1 = cc in omega arith)
+told-none none m e = refl
+told-none (some w) m e = absurd (omega arith)
 
-told-good : (n : Option ℕ) (m v next : ℕ) → Good v next ≡ told n m → (n ≡ some v) × (next ≡ m)
+told-some : (n : Option ℕ) (m : ℕ) → (told n (m + 1) .next ≡ 0 → ⊥) → (n ≡ some (told n (m + 1) .value)) × (told n (m + 1) .next ≡ m + 1)
 unfolding told
-told-good none m v next e = absurd (let z : _≡_ {A = ℕ} 0 1 = cc in omega arith)
-told-good (some w) m v next e = (cc, cc)
+told-some none m h = absurd (h refl)
+told-some (some w) m h = (refl, refl)
 
 -- a reader at p that saw m minuses and then read a number, or none
 module _ (end : ℕ) (s : List ℕ) (p m : ℕ) (hm : m ≡ minusOf (drop p s)) where
@@ -137,30 +138,41 @@ module _ (end : ℕ) (s : List ℕ) (p m : ℕ) (hm : m ≡ minusOf (drop p s)) 
   value-is : valueAt false end (drop p s) ≡ signed m (numberAt end rest)
   value-is = signed-is end (drop p s) ∙ ap (λ (l : List ℕ). signed (minusOf (drop p s)) (numberAt end l)) rest-is ∙ ap (λ (n : ℕ). signed n (numberAt end rest)) (sym hm)
 
-  pub read-bad : Bad ≡ told (numberAt end rest) (p + m + size rest + 1) → valueAt false end (drop p s) ≡ none
-  read-bad e = value-is ∙ ap (signed m) (told-bad _ _ e) ∙ signed-none m
+  -- what the reader of the number told
+  module _ (n : Natural) (e : n ≡ told (numberAt end rest) (p + m + size rest + 1)) where
+    pub read-bad : n .next ≡ 0 → valueAt false end (drop p s) ≡ none
+    read-bad z = value-is ∙ ap (signed m) (told-none _ _ (rw e at z)) ∙ signed-none m
 
-  module _ (v next : ℕ) (e : Good v next ≡ told (numberAt end rest) (p + m + size rest + 1)) where
-    number-is : numberAt end rest ≡ some v
-    number-is = told-good _ _ v next e .0
+    module _ (z : n .next ≡ 0 → ⊥) where
+      abbrev v : ℕ
+      v = n .value
 
-    pub read-small : v < 10000000000000
-    unfolding numberAt
-    read-small = omega (arith, number-bound (front rest) v (where-held (eqb (ender rest) end) (numberOf (front rest)) v number-is .1))
+      abbrev next : ℕ
+      next = n .next
 
-    pub read-zero : m ≤ 1 → v < m → valueAt false end (drop p s) ≡ none
-    read-zero h k = value-is ∙ ap (signed m) number-is ∙ signed-zero m v h k
+      number-told : (numberAt end rest ≡ some v) × (next ≡ p + m + size rest + 1)
+      number-told = rw e (told-some (numberAt end rest) (p + m + size rest) (rw e at z))
 
-    pub read-good : m ≤ v → valueAt false end (drop p s) ≡ some (cond (eqb m 0) (pos v) (negℤ (pos v)))
-    read-good h = value-is ∙ ap (signed m) number-is ∙ signed-some m v h
+      number-is : numberAt end rest ≡ some v
+      number-is = number-told .0
 
-    pub read-next : next ≡ p + size (drop p s) + 1
-    read-next =
-        let l : size (drop p s) ≡ m + size rest = minus-size (drop p s) ∙ ap (λ (x : List ℕ). minusOf (drop p s) + size x) rest-is ∙ ap (λ (n : ℕ). n + size rest) (sym hm) in
-        omega (arith, told-good _ _ v next e .1)
+      pub read-small : v < 10000000000000
+      unfolding numberAt
+      read-small = omega (arith, number-bound (front rest) v (where-held (eqb (ender rest) end) (numberOf (front rest)) v number-is .1))
 
-    pub read-inside : stops end ≡ true → next ≤ length s
-    unfolding numberAt
-    read-inside t =
-        let k = ended rest end t (eqb-true (ender rest) end (where-held (eqb (ender rest) end) (numberOf (front rest)) v number-is .0)) in
-        omega (arith, told-good _ _ v next e .1, length-drop (p + m) s)
+      pub read-zero : m ≤ 1 → v < m → valueAt false end (drop p s) ≡ none
+      read-zero h k = value-is ∙ ap (signed m) number-is ∙ signed-zero m v h k
+
+      pub read-good : m ≤ v → valueAt false end (drop p s) ≡ some (cond (eqb m 0) (pos v) (negℤ (pos v)))
+      read-good h = value-is ∙ ap (signed m) number-is ∙ signed-some m v h
+
+      pub read-next : next ≡ p + size (drop p s) + 1
+      read-next =
+          let l : size (drop p s) ≡ m + size rest = minus-size (drop p s) ∙ ap (λ (x : List ℕ). minusOf (drop p s) + size x) rest-is ∙ ap (λ (n : ℕ). n + size rest) (sym hm) in
+          omega (arith, number-told .1)
+
+      pub read-inside : stops end ≡ true → next ≤ length s
+      unfolding numberAt
+      read-inside t =
+          let k = ended rest end t (eqb-true (ender rest) end (where-held (eqb (ender rest) end) (numberOf (front rest)) v number-is .0)) in
+          omega (arith, number-told .1, length-drop (p + m) s)

@@ -1,14 +1,18 @@
 // Lines and fields as parts of the caller's bytes, and a line's fields read in one pass.
+use methodology::KIND_A;
+use methodology::KIND_H;
+use methodology::KIND_R;
+use methodology::KIND_U;
 ghost use mathlib.Core.Path.{_≡_};
 ghost use mathlib.Core.Bool.{true, false, not, cond};
 ghost use mathlib.Core.List.{[]};
-ghost use Prim.Native.Nat.{_+_, _≤_, _<_};
+ghost use Prim.Native.Nat.{_+_, _-_, _≤_, _<_, min};
 ghost use lib.Dec.{eqb, ltb};
 ghost use lib.IntN.{pos, negℤ};
 ghost use lib.ListN.{length, getD, drop};
 ghost use Rattle.numbers.specs.Lists.{any, firstWhere};
-ghost use Rattle.methodology.specs.Text.{LF as Text·LF, split, fields, same as Text·same, kindOf};
-ghost use Rattle.fields.specs.Fields.{stops, size, numberAt, told, valueAt, minusOf, OneIs, due as dueOf, rowAt, span, RowIs};
+ghost use Rattle.methodology.specs.Text.{LF as Text·LF, split, fields, same as Text·same, isDigit, kindOf};
+ghost use Rattle.fields.specs.Fields.{stops, size, Run, Over, numberAt, told, valueAt, minusOf, OneIs, due as dueOf, rowAt, span, RowIs};
 
 const TAB: u8 = 9;
 
@@ -29,20 +33,26 @@ fn find(s: &[u8], b: u8) -> usize
     i
 }
 
+// The part of s up to the first b.
+fn up_to(s: &[u8], b: u8) -> &[u8]
+    ensures { λ r. ⌜ now r ≡ getD (split b (now (s .entry))) 0 [] ⌝ }
+{
+    let e = find(s, b);
+    &s[0..e]
+}
+
 // "Each field is a part of its line": the part up to the next tab.
 pub fn field(line: &[u8]) -> &[u8]
     ensures { λ r. ⌜ now r ≡ getD (fields (now (line .entry))) 0 [] ⌝ }
 {
-    let e = find(line, TAB);
-    &line[0..e]
+    up_to(line, TAB)
 }
 
 // The part of a text up to the next LF.
 pub fn line(text: &[u8]) -> &[u8]
     ensures { λ r. ⌜ now r ≡ getD (split Text·LF (now (text .entry))) 0 [] ⌝ }
 {
-    let e = find(text, LF);
-    &text[0..e]
+    up_to(text, LF)
 }
 
 // Whether a and b hold the same bytes.
@@ -62,10 +72,55 @@ pub fn same(a: &[u8], b: &[u8]) -> bool
     true
 }
 
-// A number and the index after the byte that ends it.
-enum Natural {
-    Good(u64, usize),
-    Bad,
+// A number and the index after the byte that ends it. That index is 0 where there is no number, which is how every reader here says so: no
+// field ends before the text's first byte.
+struct Natural {
+    value: u64,
+    next: usize,
+}
+
+// One test in place of two: what is below 48 wraps to a number above 9.
+fn is_digit(b: u8) -> bool
+    ensures { λ r. ⌜ r ≡ isDigit b ⌝ }
+{
+    std::num::wrapping_sub_u8(b, 48) <= 9
+}
+
+// The value of some digits, and the index after them.
+struct Decimal {
+    value: u64,
+    end: usize,
+}
+
+// The digits from index q on, `most` of them at the most.
+fn digits_at(text: &[u8], q: usize, most: usize) -> Decimal
+    requires { ⌜ (q + most ≤ length (now text)) × (most ≤ 13) ⌝ }
+    ensures { λ r. ⌜ Run (now (text .entry)) q (r .end) (r .value) ⌝ }
+    ensures { λ r. ⌜ Over (now (text .entry)) q most (r .end) ⌝ }
+{
+    let mut v: u64 = 0;
+    let mut k: usize = 0;
+    while k < most && is_digit(text[q + k]) {
+        v = 10 * v + (text[q + k] - 48) as u64;
+        k += 1;
+    }
+    Decimal {
+        value: v,
+        end: q + k,
+    }
+}
+
+// The same for 13, or as many bytes as there are. That 13 stands here as a number lets the compiler unroll the loop.
+fn first_digits(text: &[u8], q: usize) -> Decimal
+    requires { ⌜ q ≤ length (now text) ⌝ }
+    ensures { λ r. ⌜ Run (now (text .entry)) q (r .end) (r .value) ⌝ }
+    ensures { λ r. ⌜ Over (now (text .entry)) q (min (length (now (text .entry)) - q) 13) (r .end) ⌝ }
+{
+    let left = text.len() - q;
+    if left < 13 {
+        return digits_at(text, q, left);
+    }
+    digits_at(text, q, 13)
 }
 
 // "Numbers have 1 to 13 digits, no leading zero (0 itself is good)": the one at index q of text that the byte `end` ends.
@@ -74,34 +129,27 @@ fn natural_at(text: &[u8], q: usize, end: u8) -> Natural
     requires { ⌜ stops end ≡ true ⌝ }
     ensures { λ r. ⌜ r ≡ told (numberAt end (drop q (now (text .entry)))) (q + size (drop q (now (text .entry))) + 1) ⌝ }
 {
-    let mut v: u64 = 0;
-    let mut i = q;
-    while i < text.len() {
-        let b = text[i];
-        if b < 48 {
-            if b != end {
-                return Natural::Bad;
-            }
-            if i == q {
-                return Natural::Bad;
-            }
-            if text[q] == 48 {
-                if i != q + 1 {
-                    return Natural::Bad;
-                }
-            }
-            return Natural::Good(v, i + 1);
-        }
-        if 57 < b {
-            return Natural::Bad;
-        }
-        if i == q + 13 {
-            return Natural::Bad;
-        }
-        v = 10 * v + (b - 48) as u64;
-        i += 1;
+    let none = Natural { value: 0, next: 0 };
+    let digits = first_digits(text, q);
+    let i = digits.end;
+    if i == text.len() {
+        return none;
     }
-    Natural::Bad
+    if text[i] != end {
+        return none;
+    }
+    if i == q {
+        return none;
+    }
+    if text[q] == 48 {
+        if i != q + 1 {
+            return none;
+        }
+    }
+    Natural {
+        value: digits.value,
+        next: i + 1,
+    }
 }
 
 // 1 where a minus stands at index p, else 0.
@@ -142,15 +190,15 @@ fn signed_at(text: &[u8], p: usize, end: u8, row: &mut [i64], j: usize) -> usize
     }
     let minus = minus_at(text, p);
     let n = natural_at(text, p + minus as usize, end);
-    let Natural::Good(v, next) = n else {
-        return 0;
-    };
-    if v < minus {
+    if n.next == 0 {
         return 0;
     }
-    let z = with_sign(minus, v);
+    if n.value < minus {
+        return 0;
+    }
+    let z = with_sign(minus, n.value);
     row[j] = z;
-    next
+    n.next
 }
 
 fn is_ascii(s: &[u8]) -> bool
@@ -170,19 +218,16 @@ fn is_ascii(s: &[u8]) -> bool
 fn kind_of(field: &[u8]) -> i64
     ensures { λ r. ⌜ r ≡ pos (kindOf (now (field .entry))) ⌝ }
 {
-    if same(field, b"H") {
-        return 0;
+    if field.len() != 1 {
+        return 9;
     }
-    if same(field, b"R") {
-        return 1;
+    match field[0] {
+        b'H' => KIND_H as i64,
+        b'R' => KIND_R as i64,
+        b'A' => KIND_A as i64,
+        b'U' => KIND_U as i64,
+        _ => 9,
     }
-    if same(field, b"A") {
-        return 2;
-    }
-    if same(field, b"U") {
-        return 3;
-    }
-    9
 }
 
 // The number of bytes before the first tab or LF.
@@ -227,14 +272,14 @@ fn kind_at(text: &[u8], p: usize, end: u8, row: &mut [i64], j: usize) -> usize
 }
 
 // A kind or a signed number.
-fn value_at(text: &[u8], p: usize, end: u8, kind: bool, row: &mut [i64], j: usize) -> usize
+fn value_at(text: &[u8], p: usize, end: u8, lettered: bool, row: &mut [i64], j: usize) -> usize
     requires { ⌜ p ≤ length (now text) ⌝ }
     requires { ⌜ stops end ≡ true ⌝ }
     requires { ⌜ j < length (now row) ⌝ }
-    ensures { λ r. ⌜ OneIs (valueAt kind end (drop p (now (text .entry)))) (p + size (drop p (now (text .entry))) + 1) j (now (row .entry)) (now (row .exit)) r ⌝ }
+    ensures { λ r. ⌜ OneIs (valueAt lettered end (drop p (now (text .entry)))) (p + size (drop p (now (text .entry))) + 1) j (now (row .entry)) (now (row .exit)) r ⌝ }
     ensures { λ r. ⌜ r ≤ length (now (text .entry)) ⌝ }
 {
-    if kind {
+    if lettered {
         return kind_at(text, p, end, row, j);
     }
     signed_at(text, p, end, row, j)
@@ -251,18 +296,18 @@ fn due(left: usize) -> u8
     TAB
 }
 
-// Reads the fields from index p to the line's end into the row, as many as it has places: field `kind` is a kind, the others are signed
-// numbers. It answers the index after the LF, or 0 where the fields are not so.
-pub fn row_at(text: &[u8], p: usize, kind: usize, row: &mut [i64]) -> usize
+// Reads the fields from index p to the line's end into the row, as many as it has places: field `place` is a kind, the others are
+// signed numbers. It answers the index after the LF, or 0 where the fields are not so.
+pub fn row_at(text: &[u8], p: usize, place: usize, row: &mut [i64]) -> usize
     requires { ⌜ p ≤ length (now text) ⌝ }
-    ensures { λ r. ⌜ RowIs (rowAt kind 0 (length (now (row .entry))) (drop p (now (text .entry)))) (p + span (length (now (row .entry))) (drop p (now (text .entry)))) (now (row .exit)) r ⌝ }
+    ensures { λ r. ⌜ RowIs (rowAt place 0 (length (now (row .entry))) (drop p (now (text .entry)))) (p + span (length (now (row .entry))) (drop p (now (text .entry)))) (now (row .exit)) r ⌝ }
     ensures { λ r. ⌜ r ≤ length (now (text .entry)) ⌝ }
 {
     let mut at = p;
     let mut j: usize = 0;
     while j < row.len() {
         let end = due(row.len() - j - 1);
-        let next = value_at(text, at, end, j == kind, row, j);
+        let next = value_at(text, at, end, j == place, row, j);
         if next == 0 {
             return 0;
         }

@@ -9,14 +9,13 @@ use lib.ListN.{length}
 use Rattle.numbers.specs.Sums.{Σ}
 use Rattle.numbers.specs.Fractions.{Fraction, _over_, whole, Proper, _⊕_, _⊗_, _≼_, _≺_, Σᶠ}
 use Rattle.numbers.proofs.Lists.{_∈_, range-length, every-mem}
-use Rattle.numbers.proofs.Sums.{Σ-add, Σ-eq, Σ-bound, Σ-least, Σ-elem, Σ-swap}
+use Rattle.numbers.proofs.Sums.{Σ-add, Σ-eq, Σ-bound, Σ-least, Σ-swap}
 use Rattle.numbers.proofs.Fractions.{Σᶠ-proper}
 use Rattle.numbers.proofs.RoundedUp.{Σᶠ-ceil-above, Σᶠ-ceil-below, parts-above, parts-below}
 use Rattle.methodology.specs.Account.{Opening, members}
 use Rattle.methodology.specs.Member.{loss}
 use Rattle.methodology.specs.Day.{total, scale, share}
 use Rattle.methodology.specs.Contribution.{KeptDay, highest, sumOfShares, charge, raw, funded, exactCharge, shortfall, allowance}
-use Rattle.quotient.proofs.Bounds.{share-le}
 use Rattle.fund.specs.Counted.{Counted}
 use Rattle.fund.proofs.Charges.{charge-above, charge-below, charges-above, charges-below}
 
@@ -25,7 +24,7 @@ scale-pos : 0 < scale
 scale-pos = omega arith
 
 -- `Counted` as the laws of lists ask for it
-pub counted-at : (o : Opening) (days : List KeptDay) → Counted o days → (d : KeptDay) → d ∈ days → 0 < total o (d .accounts)
+counted-at : (o : Opening) (days : List KeptDay) → Counted o days → (d : KeptDay) → d ∈ days → 0 < total o (d .accounts)
 counted-at o days c d i = every-mem (λ (d : KeptDay). 0 < total o (d .accounts)) days c d i
 
 -- the "sum of the member's e/T over these days", with nothing rounded
@@ -44,12 +43,6 @@ module _ (o : Opening) (days : List KeptDay) (counted : Counted o days) where
   shares-below : (m : ℕ) → whole (sumOfShares o days m) ≼ whole scale ⊗ exactShares o days m ⊕ whole (length days)
   unfolding sumOfShares share
   shares-below m = Σᶠ-ceil-below scale _ _ days (counted-at o days counted)
-
-  -- and at most the scale a day: no loss is above the total
-  pub shares-le : {m : ℕ} → m ∈ members (o .n) → sumOfShares o days m ≤ length days * scale
-  unfolding sumOfShares share total
-  shares-le {m} i =
-      Σ-bound days _ scale (λ d j. share-le scale (loss (o .k) (d .accounts) m) _ (counted-at o days counted d j) (Σ-elem (loss (o .k) (d .accounts)) i))
 
   -- all members' shares, day by day: the scale, and at most 1 more a member
   by-days : Σ (members (o .n)) (sumOfShares o days) ≡ Σ days (λ d. Σ (members (o .n)) (λ m. share (loss (o .k) (d .accounts) m) (total o (d .accounts))))

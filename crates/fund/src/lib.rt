@@ -1,16 +1,17 @@
-// What a day and a closing write: each member's figures into its own stretch of the lent buffer.
+// What a day and a closing write, each member's figures into its own stretch of the lent buffer, and the sums of shares between them.
 ghost use mathlib.Core.Path.{_≡_};
 ghost use mathlib.Core.List.{_++_, flatMap};
 ghost use Prim.Native.Nat.{ℕ, _*_, _<_, _≤_};
 ghost use lib.ListN.{length, getD, take, drop};
 ghost use Rattle.numbers.specs.Sums.{Σ};
-ghost use Rattle.methodology.specs.Day.{five};
+ghost use Rattle.methodology.specs.Day.{scale, five};
 ghost use Rattle.methodology.specs.Contribution.{charge, funded, three};
-ghost use Rattle.quotient.specs.Ranges.{Loss, Charge, greatestTotal};
+ghost use Rattle.quotient.specs.Ranges.{greatestTotal, Loss, Charge};
+ghost use Rattle.fund.specs.Shares.{withShares};
 
 // One member's five daily numbers, at the front of out: its loss is e, the total t, the day's Max EUL max.
 fn write_five(e: u64, max: u64, t: u64, out: &mut [u64])
-    requires { ⌜ Loss e t × (max ≤ t) ⌝ }
+    requires { ⌜ Loss e t × (max ≤ greatestTotal) ⌝ }
     requires { ⌜ 5 ≤ length (now out) ⌝ }
     ensures { λ _. ⌜ now (out .exit) ≡ five e max t ++ drop 5 (now (out .entry)) ⌝ }
 {
@@ -26,13 +27,29 @@ fn write_five(e: u64, max: u64, t: u64, out: &mut [u64])
 pub fn write_dailies(losses: [u64; 32], n: usize, max: u64, total: u64, out: &mut [u64])
     requires { ⌜ (n ≤ 32) × (length (now out) ≡ 5 * n) ⌝ }
     requires { ⌜ ((i : ℕ) → i < n → Loss (getD losses i 0) total) ⌝ }
-    requires { ⌜ max ≤ total ⌝ }
+    requires { ⌜ max ≤ greatestTotal ⌝ }
     ensures { λ _. ⌜ now (out .exit) ≡ flatMap (λ e. five e max total) (take n losses) ⌝ }
 {
     for i in 0..n {
         // The form that document 01 names: "each member's five into its own stretch of the lent buffer".
         write_five(losses[i], max, total, &mut out[5 * i..]);
     }
+}
+
+// The sums of n members' shares, with those that these losses have in the total.
+pub fn with_shares(sums: [u64; 32], losses: [u64; 32], n: usize, total: u64) -> [u64; 32]
+    requires { ⌜ n ≤ 32 ⌝ }
+    requires { ⌜ ((i : ℕ) → i < n → Loss (getD losses i 0) total) ⌝ }
+    requires { ⌜ ((i : ℕ) → getD sums i 0 ≤ 31 * scale) ⌝ }
+    ensures { λ r. ⌜ r ≡ withShares sums losses n total ⌝ }
+{
+    let mut all = sums;
+    let mut i: usize = 0;
+    while i < n {
+        all[i] = sums[i] + quotient::share(losses[i], total);
+        i += 1;
+    }
+    all
 }
 
 // The Rates and FX Minimum Contribution Amount.

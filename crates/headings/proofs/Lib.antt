@@ -1,3 +1,3 @@
 pub mod Filled
-pub mod LocalArray
+mod LocalArray
 pub mod LentArray

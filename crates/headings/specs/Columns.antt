@@ -4,17 +4,13 @@ use Prim.Native.Nat.{ℕ}
 use lib.ListN.{getD}
 use Rattle.numbers.specs.Lists.{range}
 use Rattle.methodology.specs.declared.Heading.{Heading}
-use Rattle.methodology.specs.Account.{nobody}
+use Rattle.methodology.specs.Account.{nobody, headingAt}
 
 unfoldable pub column : (Heading → ℕ) → List Heading → List ℕ
 column f hs = map (λ i. f (getD hs i nobody)) (range 0 256)
 
 unfoldable pub columns : List Heading → List ℕ
 columns hs = column (λ h. h .member) hs ++ column (λ h. h .number) hs ++ column (λ h. h .kind) hs
-
--- Heading i of three columns. Past the end of a column stands 0.
-abbrev pub headingAt : (members numbers kinds : List ℕ) → (i : ℕ) → Heading
-headingAt ms ns ks i = record { member = getD ms i 0; number = getD ns i 0; kind = getD ks i 0 }
 
 -- The 256 headings of three columns.
 unfoldable pub packed : (members numbers kinds : List ℕ) → List Heading

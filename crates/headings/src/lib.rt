@@ -1,7 +1,9 @@
 // A day's headings as columns of numbers, and back.
 use methodology::Heading;
 ghost use mathlib.Core.Path.{_≡_};
+ghost use mathlib.Core.Bool.{cond};
 ghost use Prim.Native.Nat.{min};
+ghost use lib.Dec.{ltb};
 ghost use lib.ListN.{getD};
 ghost use Rattle.headings.specs.Columns.{columns, packed};
 
@@ -10,6 +12,13 @@ pub fn within(count: usize) -> usize
     ensures { λ r. ⌜ r ≡ min count 256 ⌝ }
 {
     if count < 256 { count } else { 256 }
+}
+
+// The number of headings, or 0 where row 4 refuses so many.
+pub fn counted(count: usize) -> usize
+    ensures { λ r. ⌜ r ≡ cond (ltb 256 count) 0 count ⌝ }
+{
+    if count > 256 { 0 } else { count }
 }
 
 // The fields of the first 256 headings in three columns of 256 places: members, account numbers, kinds. Past the last heading stands 0.

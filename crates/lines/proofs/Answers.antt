@@ -1,15 +1,17 @@
--- What the readers of two numbers and of an account answer, from the row that was read: one law for each exit.
+-- What the readers of numbers and of an account answer, from the row that was read: one law for each exit.
 -- A row that is no form's is refused by its signs alone; the kind's value is never negative.
 use mathlib.Core.Path.{_≡_, refl, sym, ap, _∙_, subst}
-use mathlib.Core.Bool.{Bool, true, false, not, _&&_, _||_, cond}
-use mathlib.Core.List.{List, [], _∷_}
+use mathlib.Core.Bool.{Bool, true, false, not, _&&_, cond}
+use mathlib.Core.List.{List, [], _∷_, map, map-append}
 use mathlib.Core.Option.{Option, none, some}
-use Prim.Native.Nat.{ℕ, zero, suc, _+_, _-_, _<_, _^_}
+use Prim.Native.Nat.{ℕ, zero, suc, _+_, _-_, _≤_, _<_, _^_}
+use native.Mathlib.Numerals.{add-one}
 use native.Mathlib.Omega.{arith}
 use lib.Dec.{T, eqb}
 use lib.IntN.{ℤ, pos, natAbs}
 use lib.Signed.{_≤ℤ_, ltZ, nonNeg, mag, ltZ-no}
-use lib.ListN.{length, getD, drop}
+use lib.ListN.{length, getD, take, drop, set, length-set}
+use lib.Seq.{take-all, take-suc, take-suc-set}
 use mir.Syntax.{w64}
 use mir.Val.{Fits, toZ, ofZ, hbits}
 use borrow.Author.Tests.{eq-eqb, le-ltb}
@@ -19,12 +21,11 @@ use Rattle.numbers.proofs.Signed.{back-ok, to-unsigned, to-unsigned-is}
 use Rattle.methodology.specs.Text.{LF, bytes, same, fields, kindOf, also, badBytes, numbersAfter, accountOf}
 use Rattle.methodology.specs.Lines.{indexOf, has, before, lineRead}
 use Rattle.fields.specs.Fields.{valueOf, RowIs}
-use Rattle.lines.specs.declared.Pair.{Pair}
-use Rattle.lines.specs.declared.Pair.the-variants.{Two, Bad}
-use Rattle.lines.specs.Forms.{valuesOf, rowAfter, lineRow, isNegative, naturals, pairOf, signsWrong, accountFrom, AccountIs}
+use Rattle.fields.proofs.Rows.{row-none, row-some}
+use Rattle.lines.specs.Forms.{valuesOf, rowAfter, lineRow, isNegative, naturals, signsWrong, accountFrom, AccountIs}
 use Rattle.lines.proofs.Rows.{some-none}
 use Rattle.lines.proofs.Values.{foreign}
-use Rattle.lines.proofs.Forms.{pair-row, account-row}
+use Rattle.lines.proofs.Forms.{numbers-row, account-row}
 use Rattle.lines.proofs.Words.{row-zero, row-read}
 
 -- ---- signs
@@ -43,45 +44,50 @@ cast-asks z f e = rw (back-ok w64 z f) (to-unsigned (record { sfits = f }) (natu
 pub cast-gives : (z : ℤ) → mag z < 2 ^ hbits w64 → isNegative z ≡ false → natAbs (toZ w64 (ofZ w64 z)) ≡ z ⁺
 cast-gives z f e = rw (back-ok w64 z f) (to-unsigned-is (natural-is z e))
 
--- ---- two numbers
+-- ---- numbers
 
-two-values : (row : List ℤ) → length row ≡ 2
-    → (let a = getD row 0 (pos 0) in let b = getD row 1 (pos 0) in naturals (some row) ≡ cond (isNegative a || (isNegative b || false)) none (some (a ⁺ ∷ b ⁺ ∷ [])))
-unfolding naturals any
-two-values [] e = absurd (omega arith)
-two-values (x ∷ []) e = absurd (omega arith)
-two-values (x ∷ y ∷ []) e = refl
-two-values (x ∷ y ∷ z ∷ row) e = absurd (omega arith)
+-- those copied before place j
+pub record Copied (signed : List ℤ) (row : List ℕ) (j : ℕ) : Type 0 where
+  pub long : length row ≡ length signed
+  pub same : take j row ≡ map (λ z. z ⁺) (take j signed)
 
-module _ (text word : List ℕ) (p : ℕ) (row : List ℤ) (r : ℕ) (found : RowIs (lineRow word 2 2 (drop p text)) (p + indexOf LF (drop p text) + 1) row r) where
-  abbrev Told : Pair → Type 0
-  Told q = q ≡ pairOf (lineRead (numbersAfter word 2) (drop p text)) (p + indexOf LF (drop p text) + 1)
+pub copied-none : (signed : List ℤ) (row : List ℕ) → length row ≡ length signed → Copied signed row 0
+copied-none signed row h = record { long = h; same = refl }
 
-  pub no-pair : r ≡ 0 → Told Bad
-  unfolding naturals pairOf
-  no-pair z = rw (pair-row word (drop p text), row-zero _ _ row r found (omega arith) z)
+module _ {signed : List ℤ} {row : List ℕ} {j : ℕ} (c : Copied signed row j) where
+  abbrev z : ℤ
+  z = getD signed j (pos 0)
 
-  module _ (z : r ≡ 0 → ⊥) (two : length row ≡ 2) where
-    abbrev a : ℤ
-    a = getD row 0 (pos 0)
+  pub copied-more : j < length signed → Copied signed (set row j (z ⁺)) (j + 1)
+  copied-more h =
+      record {
+        long = length-set row j (z ⁺) ∙ c .long;
+        same = rw (add-one j, take-suc signed j (pos 0) h, take-suc-set row j (z ⁺) (omega (arith, c .long)), c .same, map-append (λ z. z ⁺) (take j signed) (z ∷ []));
+      }
 
-    abbrev b : ℤ
-    b = getD row 1 (pos 0)
+  pub copied-all : length signed ≤ j → row ≡ map (λ z. z ⁺) signed
+  copied-all h = sym (take-all j row (omega (arith, c .long))) ∙ c .same ∙ rw (take-all j signed h)
 
-    values : lineRead (numbersAfter word 2) (drop p text) ≡ cond (isNegative a || (isNegative b || false)) none (some (a ⁺ ∷ b ⁺ ∷ []))
-    values = pair-row word (drop p text) ∙ ap naturals (row-read _ _ row r found z .0) ∙ two-values row two
+-- the reader's answers, from the signed row that was read
+module _ (text word : List ℕ) (p n : ℕ) (signed : List ℤ) (r : ℕ) (found : RowIs (lineRow word n n (drop p text)) (p + indexOf LF (drop p text) + 1) signed r) where
+  abbrev Told : List ℕ → ℕ → Type 0
+  Told row q = RowIs (lineRead (numbersAfter word n) (drop p text)) (p + indexOf LF (drop p text) + 1) row q
 
-    pub first-negative : isNegative a ≡ true → Told Bad
-    unfolding pairOf
-    first-negative e = rw (values, e)
+  pub no-numbers : (row : List ℕ) → r ≡ 0 → Told row 0
+  unfolding naturals
+  no-numbers row z = row-none _ _ row (numbers-row word n (drop p text) ∙ rw (row-zero _ _ signed r found (omega arith) z))
 
-    pub second-negative : isNegative a ≡ false → isNegative b ≡ true → Told Bad
-    unfolding pairOf
-    second-negative e h = rw (values, e, h)
+  module _ (z : r ≡ 0 → ⊥) (row : List ℕ) where
+    values : lineRead (numbersAfter word n) (drop p text) ≡ naturals (some signed)
+    values = numbers-row word n (drop p text) ∙ ap naturals (row-read _ _ signed r found z .0)
 
-    pub both-natural : isNegative a ≡ false → isNegative b ≡ false → Told (Two (a ⁺) (b ⁺) r)
-    unfolding pairOf
-    both-natural e h = rw (values, e, h, sym (row-read _ _ row r found z .1))
+    pub some-negative : any isNegative signed ≡ true → Told row 0
+    unfolding naturals
+    some-negative e = row-none _ _ row (values ∙ rw e)
+
+    pub all-natural : any isNegative signed ≡ false → row ≡ map (λ z. z ⁺) signed → Told row r
+    unfolding naturals
+    all-natural e same = row-some _ _ row r (values ∙ rw e (ap some (sym same))) (row-read _ _ signed r found z .1)
 
 -- ---- the kind
 

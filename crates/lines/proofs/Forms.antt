@@ -1,14 +1,15 @@
--- Document 01's forms of a line, two numbers or an account, are the row of signed numbers after its word, of which some may not be negative.
+-- Document 01's forms of a line, numbers or an account, are the row of signed numbers after its word, of which some may not be negative.
 -- A number is a signed number that is not negative; the rest is by cases on what each field is.
 use mathlib.Core.Path.{_≡_, refl, sym, _∙_}
 use mathlib.Core.Bool.{Bool, true, false, not, _&&_, _||_, cond}
-use mathlib.Core.List.{List, [], _∷_, _++_}
+use mathlib.Core.List.{List, [], _∷_, _++_, map}
 use mathlib.Core.Option.{Option, none, some}
-use Prim.Native.Nat.{ℕ, zero, suc, _+_, _<_}
+use Prim.Native.Nat.{ℕ, zero, suc, _+_, _≤_, _<_}
+use native.Mathlib.Numerals.{add-one}
 use native.Mathlib.Omega.{arith}
 use lib.Dec.{eqb, ltb}
 use lib.IntN.{ℤ, pos}
-use lib.ListN.{length, getD, take, drop}
+use lib.ListN.{length, getD, take, drop, length-drop}
 use borrow.Author.Tests.{eqb-true, ne-eqb, le-ltb}
 use Rattle.numbers.specs.Lists.{any}
 use Rattle.numbers.specs.Signed.{_⁺}
@@ -76,32 +77,32 @@ form-by false c x y G e k = sym e
 form-by true false x y G e k = sym e
 form-by true true x y G e k = k refl
 
--- ---- two numbers
+-- ---- numbers
 
-two-numbers : (a b : Option ℤ) → also (natural a) (also (natural b) (some [])) ≡ naturals (also a (also b (some [])))
+also-naturals : (a : Option ℤ) (o : Option (List ℤ)) → also (natural a) (naturals o) ≡ naturals (also a o)
 unfolding also natural naturals any
-two-numbers none b = refl
-two-numbers (some x) none = also-none (natural (some x))
-two-numbers (some x) (some y) = by (isNegative x) (isNegative y)
+also-naturals none o = refl
+also-naturals (some x) none = also-none (natural (some x))
+also-naturals (some x) (some zs) = by (isNegative x) (any isNegative zs)
   where
-    by : (s t : Bool) → also (cond s none (some (x ⁺))) (also (cond t none (some (y ⁺))) (some [])) ≡ cond (s || (t || false)) none (some (x ⁺ ∷ y ⁺ ∷ []))
+    by : (s t : Bool) → also (cond s none (some (x ⁺))) (cond t none (some (map (λ z. z ⁺) zs))) ≡ cond (s || t) none (some (x ⁺ ∷ map (λ z. z ⁺) zs))
     by true t = refl
     by false true = refl
     by false false = refl
 
-pair-fields : (fs : List (List ℕ)) → eqb (length fs) 3 ≡ true → everyField numberOf (drop 1 fs) ≡ naturals (valuesOf 2 0 (drop 1 fs))
-unfolding everyField valuesOf valueOf
-pair-fields (w ∷ a ∷ b ∷ []) e = rw (number-signed a, number-signed b) (two-numbers (signedOf a) (signedOf b))
-pair-fields [] e = absurd (let z = eqb-true 0 3 e in omega arith)
-pair-fields (w ∷ []) e = absurd (let z = eqb-true 1 3 e in omega arith)
-pair-fields (w ∷ a ∷ []) e = absurd (let z = eqb-true 2 3 e in omega arith)
-pair-fields (w ∷ a ∷ b ∷ c ∷ fs) e = absurd (let z = eqb-true (suc (suc (suc (suc (length fs))))) 3 e in omega arith)
+-- fields before the place of the kind
+number-fields : (place j : ℕ) (fs : List (List ℕ)) → j + length fs ≤ place → everyField numberOf fs ≡ naturals (valuesOf place j fs)
+unfolding everyField valuesOf valueOf naturals any
+number-fields place j [] h = refl
+number-fields place j (f ∷ fs) h =
+    rw (number-signed f, ne-eqb j place (λ e. omega arith), number-fields place (suc j) fs (omega arith)) (also-naturals (signedOf f) (valuesOf place (suc j) fs))
 
-pub pair-row : (word s : List ℕ) → lineRead (numbersAfter word 2) s ≡ naturals (lineRow word 2 2 s)
+pub numbers-row : (word : List ℕ) (n : ℕ) (s : List ℕ) → lineRead (numbersAfter word n) s ≡ naturals (lineRow word n n s)
 unfolding numbersAfter rowAfter naturals
-pair-row word s =
-    read-by (numbersAfter word 2) (rowAfter word 2 2) naturals refl
-    (λ l q. form-by (same (getD (fields l) 0 []) word) (eqb (length (fields l)) 3) _ _ naturals refl (pair-fields (fields l))) s
+numbers-row word n s =
+    read-by (numbersAfter word n) (rowAfter word n n) naturals refl
+    (λ l q. rw (add-one n) (form-by (same (getD (fields l) 0 []) word) (eqb (length (fields l)) (suc n)) _ _ naturals refl
+    (λ e. number-fields n 0 (drop 1 (fields l)) (omega (arith, eqb-true (length (fields l)) (suc n) e, length-drop 1 (fields l)))))) s
 
 -- ---- an account
 

@@ -1,5 +1,4 @@
--- The values of a line's fields: where all are there, the line is ASCII; and document 01's forms of a line are the row of values, of which
--- some may not be negative. By cases on what each field is.
+-- The values of a line's fields: where all are there, the line is ASCII. By cases on what each field is.
 use mathlib.Core.Path.{_≡_, refl, sym, ap, _∙_}
 use mathlib.Core.Bool.{Bool, true, false, not, _&&_, _||_, cond, or-assoc}
 use mathlib.Core.List.{List, [], _∷_}

@@ -171,12 +171,12 @@ module _ (word : List ℕ) (letters : notLetters word ≡ false) where
 
 -- ---- the reader's answers, at index p of a text
 
-pub row-zero : (o : Option (List ℤ)) (next : ℕ) (row : List ℤ) (r : ℕ) → RowIs o next row r → 0 < next → r ≡ 0 → o ≡ none
+pub row-zero : {A : Type 0} (o : Option (List A)) (next : ℕ) (row : List A) (r : ℕ) → RowIs o next row r → 0 < next → r ≡ 0 → o ≡ none
 unfolding RowIs
 row-zero none next row r h k e = refl
 row-zero (some l) next row r h k e = absurd (let z = h .0 in omega arith)
 
-pub row-read : (o : Option (List ℤ)) (next : ℕ) (row : List ℤ) (r : ℕ) → RowIs o next row r → (r ≡ 0 → ⊥) → (o ≡ some row) × (r ≡ next)
+pub row-read : {A : Type 0} (o : Option (List A)) (next : ℕ) (row : List A) (r : ℕ) → RowIs o next row r → (r ≡ 0 → ⊥) → (o ≡ some row) × (r ≡ next)
 unfolding RowIs
 row-read none next row r h n = absurd (n h)
 row-read (some l) next row r h n = (ap some (sym (h .1)), h .0)

@@ -15,28 +15,26 @@ use Rattle.methodology.specs.Refusals.{outside}
 use Rattle.methodology.specs.Text.{same, fields, also, AccountLine}
 use Rattle.methodology.specs.Lines.{lineRead}
 use Rattle.fields.specs.Fields.{valueOf}
-use Rattle.lines.specs.declared.Pair.{Pair}
-use Rattle.lines.specs.declared.Pair.the-variants.{Two, Bad}
 
 -- Whether a byte of a word is no lower-case letter. The words of a line have none such.
 abbrev pub notLetters : List ℕ → Bool
 notLetters word = any (outside 97 122) word
 
--- the values of fields from field j on: field `kind` is a kind, the others are signed numbers
-unfoldable pub valuesOf : (kind j : ℕ) → List (List ℕ) → Option (List ℤ)
-valuesOf kind j [] = some []
-valuesOf kind j (f ∷ fs) = also (valueOf (eqb j kind) f) (valuesOf kind (suc j) fs)
+-- the values of fields from field j on: field `place` is a kind, the others are signed numbers
+unfoldable pub valuesOf : (place j : ℕ) → List (List ℕ) → Option (List ℤ)
+valuesOf place j [] = some []
+valuesOf place j (f ∷ fs) = also (valueOf (eqb j place) f) (valuesOf place (suc j) fs)
 
 -- the values of the n fields after a line's word
-unfoldable pub rowAfter : (word : List ℕ) → (kind n : ℕ) → (line : List ℕ) → Option (List ℤ)
-rowAfter word kind n line =
-    cond (same (getD (fields line) 0 []) word && eqb (length (fields line)) (suc n)) (valuesOf kind 0 (drop 1 (fields line))) none
+unfoldable pub rowAfter : (word : List ℕ) → (place n : ℕ) → (line : List ℕ) → Option (List ℤ)
+rowAfter word place n line =
+    cond (same (getD (fields line) 0 []) word && eqb (length (fields line)) (suc n)) (valuesOf place 0 (drop 1 (fields line))) none
 
 -- those of the line at the front of a text
-abbrev pub lineRow : (word : List ℕ) → (kind n : ℕ) → (text : List ℕ) → Option (List ℤ)
-lineRow word kind n s = lineRead (rowAfter word kind n) s
+abbrev pub lineRow : (word : List ℕ) → (place n : ℕ) → (text : List ℕ) → Option (List ℤ)
+lineRow word place n s = lineRead (rowAfter word place n) s
 
--- ---- two numbers
+-- ---- numbers
 
 abbrev pub isNegative : ℤ → Bool
 isNegative z = ltZ z (pos 0)
@@ -45,11 +43,6 @@ isNegative z = ltZ z (pos 0)
 unfoldable pub naturals : Option (List ℤ) → Option (List ℕ)
 naturals none = none
 naturals (some zs) = cond (any isNegative zs) none (some (map (λ z. z ⁺) zs))
-
--- what the reader of a line with two numbers answers: they, and the index after its LF
-unfoldable pub pairOf : Option (List ℕ) → (next : ℕ) → Pair
-pairOf none next = Bad
-pairOf (some ns) next = Two (getD ns 0 0) (getD ns 1 0) next
 
 -- ---- an account
 

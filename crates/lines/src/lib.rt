@@ -4,26 +4,23 @@ use fields::row_at;
 use fields::same;
 ghost use mathlib.Core.Path.{_≡_};
 ghost use mathlib.Core.Bool.{false};
+ghost use mathlib.Core.List.{map};
 ghost use Prim.Native.Nat.{_+_, _-_, _≤_, _<_};
 ghost use lib.ListN.{length, drop};
+ghost use Rattle.numbers.specs.Lists.{any};
+ghost use Rattle.numbers.specs.Signed.{_⁺};
 ghost use Rattle.methodology.specs.Text.{LF, numbersAfter, accountOf};
 ghost use Rattle.methodology.specs.Lines.{indexOf, lineRead};
 ghost use Rattle.fields.specs.Fields.{RowIs};
-ghost use Rattle.lines.specs.Forms.{notLetters, lineRow, pairOf, AccountIs};
+ghost use Rattle.lines.specs.Forms.{notLetters, lineRow, isNegative, AccountIs};
 
-// Two numbers and the index after the line's LF.
-pub enum Pair {
-    Two(u64, u64, usize),
-    Bad,
-}
-
-// Reads the line at index p, its word and then as many values as the row has places, of which value `kind` is a kind. It answers the index
-// after the LF, or 0 where the line is not so.
-fn line_at(text: &[u8], p: usize, word: &[u8], kind: usize, row: &mut [i64]) -> usize
+// Reads the line at index p, its word and then as many values as the row has places, of which the one in `place` is a kind. It answers
+// the index after the LF, or 0 where the line is not so.
+fn line_at(text: &[u8], p: usize, word: &[u8], place: usize, row: &mut [i64]) -> usize
     requires { ⌜ p ≤ length (now text) ⌝ }
     requires { ⌜ notLetters (now word) ≡ false ⌝ }
     requires { ⌜ 0 < length (now row) ⌝ }
-    ensures { λ r. ⌜ RowIs (lineRow (now (word .entry)) kind (length (now (row .entry))) (drop p (now (text .entry)))) (p + indexOf LF (drop p (now (text .entry))) + 1) (now (row .exit)) r ⌝ }
+    ensures { λ r. ⌜ RowIs (lineRow (now (word .entry)) place (length (now (row .entry))) (drop p (now (text .entry)))) (p + indexOf LF (drop p (now (text .entry))) + 1) (now (row .exit)) r ⌝ }
     ensures { λ r. ⌜ r ≤ length (now (text .entry)) ⌝ }
 {
     let first = field(&text[p..]);
@@ -33,7 +30,7 @@ fn line_at(text: &[u8], p: usize, word: &[u8], kind: usize, row: &mut [i64]) -> 
     if text.len() - p <= word.len() {
         return 0;
     }
-    let next = row_at(text, p + word.len() + 1, kind, row);
+    let next = row_at(text, p + word.len() + 1, place, row);
     if next == 0 {
         return 0;
     }
@@ -43,26 +40,68 @@ fn line_at(text: &[u8], p: usize, word: &[u8], kind: usize, row: &mut [i64]) -> 
     next
 }
 
-// A line with two numbers after its word.
-pub fn pair_at(text: &[u8], p: usize, word: &[u8]) -> Pair
+// Whether any of the numbers is negative.
+fn any_negative(signed: &[i64]) -> bool
+    ensures { λ r. ⌜ r ≡ any isNegative (now (signed .entry)) ⌝ }
+{
+    let mut j: usize = 0;
+    while j < signed.len() {
+        let z = signed[j];
+        if z < 0 {
+            return true;
+        }
+        j += 1;
+    }
+    false
+}
+
+// Copies numbers that are not negative into a row of numbers without a sign.
+fn copy_naturals(signed: &[i64], row: &mut [u64])
+    requires { ⌜ length (now signed) ≡ length (now row) ⌝ }
+    requires { ⌜ any isNegative (now signed) ≡ false ⌝ }
+    ensures { λ _. ⌜ now (row .exit) ≡ map (λ z. z ⁺) (now (signed .entry)) ⌝ }
+{
+    let mut j: usize = 0;
+    while j < row.len() {
+        let z = signed[j];
+        row[j] = z as u64;
+        j += 1;
+    }
+}
+
+// `numbers_at`, with a row for the signed numbers.
+fn numbers_by(text: &[u8], p: usize, word: &[u8], signed: &mut [i64], row: &mut [u64]) -> usize
     requires { ⌜ p ≤ length (now text) ⌝ }
     requires { ⌜ notLetters (now word) ≡ false ⌝ }
-    ensures { λ r. ⌜ r ≡ pairOf (lineRead (numbersAfter (now (word .entry)) 2) (drop p (now (text .entry)))) (p + indexOf LF (drop p (now (text .entry))) + 1) ⌝ }
+    requires { ⌜ (0 < length (now row)) × (length (now signed) ≡ length (now row)) ⌝ }
+    ensures { λ r. ⌜ RowIs (lineRead (numbersAfter (now (word .entry)) (length (now (row .entry)))) (drop p (now (text .entry)))) (p + indexOf LF (drop p (now (text .entry))) + 1) (now (row .exit)) r ⌝ }
+    ensures { λ r. ⌜ r ≤ length (now (text .entry)) ⌝ }
+    ensures { λ r. ⌜ (r ≡ 0 → now (row .exit) ≡ now (row .entry)) ⌝ }
 {
-    let mut row = [0i64; 2];
-    let next = line_at(text, p, word, 2, &mut row); // places 0 and 1: no value is a kind
+    let next = line_at(text, p, word, row.len(), signed); // past the last place: no value is a kind
     if next == 0 {
-        return Pair::Bad;
+        return 0;
     }
-    let a = row[0];
-    let b = row[1];
-    if a < 0 {
-        return Pair::Bad;
+    if any_negative(signed) {
+        return 0;
     }
-    if b < 0 {
-        return Pair::Bad;
-    }
-    Pair::Two(a as u64, b as u64, next)
+    copy_naturals(signed, row);
+    next
+}
+
+// Reads the line at index p, its word and then as many numbers as the row has places, at most 8. It answers the index after the LF, or 0
+// where the line is not so, and the row is then as before.
+pub fn numbers_at(text: &[u8], p: usize, word: &[u8], row: &mut [u64]) -> usize
+    requires { ⌜ p ≤ length (now text) ⌝ }
+    requires { ⌜ notLetters (now word) ≡ false ⌝ }
+    requires { ⌜ (0 < length (now row)) × (length (now row) ≤ 8) ⌝ }
+    ensures { λ r. ⌜ RowIs (lineRead (numbersAfter (now (word .entry)) (length (now (row .entry)))) (drop p (now (text .entry)))) (p + indexOf LF (drop p (now (text .entry))) + 1) (now (row .exit)) r ⌝ }
+    ensures { λ r. ⌜ r ≤ length (now (text .entry)) ⌝ }
+    ensures { λ r. ⌜ (r ≡ 0 → now (row .exit) ≡ now (row .entry)) ⌝ }
+{
+    let mut signed = [0i64; 8];
+    let n = row.len();
+    numbers_by(text, p, word, &mut signed[..n], row)
 }
 
 // "member, account, kind, base, margin, extra, stress 1 to k": an account's line, as a row of k + 6 numbers.

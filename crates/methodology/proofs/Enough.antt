@@ -1,7 +1,7 @@
 -- Enough bytes for the report of a text, from what is expected on: at first 2,131,010 are. A line takes its own from them, and those that
 -- are left are enough for what is expected next.
 use mathlib.Core.Path.{_≡_, refl}
-use mathlib.Core.Bool.{false, not, _||_}
+use mathlib.Core.Bool.{not, _||_}
 use mathlib.Core.List.{List, [], _∷_, _++_}
 use mathlib.Core.Option.{Option, none, some}
 use Prim.Native.Nat.{ℕ, _+_, _*_, _≤_, _<_}
@@ -13,10 +13,10 @@ use Rattle.numbers.proofs.Tests.{neither}
 use Rattle.methodology.specs.declared.Refusal.{Refusal}
 use Rattle.methodology.specs.declared.Refusal.the-variants.{Clear, Row, RowAt}
 use Rattle.methodology.specs.Account.{Opening, DayInput}
-use Rattle.methodology.specs.Refusals.{isOpen, outside, badLengths, badDayNumber, dayRefusal}
+use Rattle.methodology.specs.Refusals.{isOpen, nOutside, kOutside, countOutside, badLengths, badDayNumber, dayRefusal}
 use Rattle.methodology.specs.Register.{Call, Register, start, lastNumber, refusal, accept, step}
 use Rattle.methodology.specs.Text.{bytes, same, AccountLine, Expected, period, member, day, account, afterEnd, Read, ends, goesOn, readPeriod, opened, readMember, readDay, sized, withAccount, readAccount, readLine}
-use Rattle.methodology.proofs.Passed.{passed, either, by-test, number-rises}
+use Rattle.methodology.proofs.Passed.{inside, passed, either, by-test, number-rises}
 
 -- the most bytes of a good line with its LF, and of a day's lines, which are its day line and its acct lines
 abbrev pub aLine : ℕ
@@ -39,9 +39,6 @@ abbrev pub EnoughAfter : (m : ℕ) → Read → Type 0
 EnoughAfter m (ends report) = Unit {0}
 EnoughAfter m (goesOn report next) = Enough m next
 
-pub within : (least most x : ℕ) → outside least most x ≡ false → (least ≤ x) × (x ≤ most)
-within least most x e = let (a, b) = neither (ltb x least) (ltb most x) e in (ltb-false x least a, ltb-false most x b)
-
 -- there is a line to read
 pub enough-line : (m : ℕ) (e : Expected) → Enough m e → aLine ≤ m
 enough-line m period k = omega arith
@@ -56,8 +53,8 @@ after-period : (m l i : ℕ) (read : Option (List ℕ)) → l < aLine → Enough
 unfolding readPeriod
 after-period m l i none h k = tt
 after-period m l i (some ns) h k =
-    by-test (EnoughAfter m) (outside 1 32 (getD ns 0 0) || outside 1 16 (getD ns 1 0)) _ _ (λ e. tt)
-    (λ e. let w = within 1 32 (getD ns 0 0) (neither (outside 1 32 (getD ns 0 0)) _ e .0) in omega arith)
+    by-test (EnoughAfter m) (nOutside (getD ns 0 0) || kOutside (getD ns 1 0)) _ _ (λ e. tt)
+    (λ e. let w = inside _ _ (getD ns 0 0) (neither (nOutside (getD ns 0 0)) _ e .0) in omega arith)
 
 after-opened : (m : ℕ) (x : Refusal) (o : Opening) → aLine + 32 * aDay ≤ m → EnoughAfter m (opened x o)
 unfolding opened step accept
@@ -80,7 +77,7 @@ after-member m l o i (some ns) h k =
 after-day : (m l : ℕ) (g : Register) (i : ℕ) (read : Option (List ℕ)) → l < aLine → Enough (l + 1 + m) (day g) → EnoughAfter m (readDay g i read)
 unfolding readDay
 after-day m l g i none h k = tt
-after-day m l g i (some ns) h k = by-test (EnoughAfter m) (outside 1 256 (getD ns 1 0)) _ _ (λ e. tt) (λ e. omega arith)
+after-day m l g i (some ns) h k = by-test (EnoughAfter m) (countOutside (getD ns 1 0)) _ _ (λ e. tt) (λ e. omega arith)
 
 -- an accepted day's number is above the last, and at most 31
 pub rises : (g : Register) (d : DayInput) (room : ℕ) → refusal g (Call.day d room) ≡ Clear → (lastNumber (g .days) < d .number) × (d .number ≤ 31)

@@ -1,9 +1,9 @@
-pub mod Samples
+mod Samples
 pub mod Figures
 pub mod WorkedCalls
 pub mod Passed
 pub mod WorkedTexts
 pub mod Splits
-pub mod Enough
+mod Enough
 pub mod Cut
 pub mod Short

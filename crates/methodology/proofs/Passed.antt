@@ -1,4 +1,5 @@
--- A refusal table that lets a call pass: none of its rows held; and what holds of one of two, as a call is accepted or a test holds.
+-- A refusal table that lets a call pass: none of its rows held; what a test of limits leaves; and what holds of one of two, as a call is
+-- accepted or a test holds.
 use mathlib.Core.Path.{_≡_, refl}
 use mathlib.Core.Bool.{Bool, true, false, cond}
 use Prim.Native.Nat.{ℕ, _≤_, _<_}
@@ -31,10 +32,15 @@ pub by-test : {A : Type 0} (P : A → Type 0) (b : Bool) (x y : A) → (b ≡ tr
 by-test P true x y f g = f refl
 by-test P false x y f g = g refl
 
+-- a number that is not outside its limits
+pub inside : (least most x : ℕ) → outside least most x ≡ false → (least ≤ x) × (x ≤ most)
+inside least most x e =
+    let (low, high) = neither (ltb x least) (ltb most x) e in
+    (ltb-false x least low, ltb-false most x high)
+
 -- a day number that row 3 lets pass
 pub number-rises : (last number : ℕ) → badDayNumber last number ≡ false → (number ≤ 31) × (last < number)
 unfolding badDayNumber
 number-rises last number e =
     let (a, b) = neither (outside 1 31 number) (leb number last) e in
-    let (_, high) = neither (ltb number 1) (ltb 31 number) a in
-    (ltb-false 31 number high, leb-false number last b)
+    (inside 1 31 number a .1, leb-false number last b)

@@ -1,4 +1,4 @@
--- A report has at most 262,144 bytes. The numbers of accepted days rise to 31, so there are at most 31 of them; a day prints at most 4,400
+-- A report has at most 147,456 bytes. The numbers of accepted days rise to 31, so there are at most 31 of them; a day prints at most 4,400
 -- bytes, and so does what ends the report. Each line takes what it prints from what can still be printed.
 use mathlib.Core.Path.{_≡_, refl}
 use mathlib.Core.Bool.{_||_, cond}
@@ -13,11 +13,11 @@ use Rattle.numbers.proofs.Tests.{neither}
 use Rattle.methodology.specs.declared.Refusal.{Refusal}
 use Rattle.methodology.specs.declared.Refusal.the-variants.{Clear, Row, RowAt}
 use Rattle.methodology.specs.Account.{Opening, DayInput, members}
-use Rattle.methodology.specs.Refusals.{outside}
+use Rattle.methodology.specs.Refusals.{nOutside, kOutside, countOutside}
 use Rattle.methodology.specs.Register.{Call, Register, start, lastNumber, refusal, accept, step, returned}
 use Rattle.methodology.specs.Text.{LF, tab, bytes, same, split, badBytes, AccountLine, digits, decimal, printed, refusedLine, rows, dayLines, fundLines, Expected, period, member, day, account, afterEnd, Read, ends, goesOn, readPeriod, opened, readMember, readDay, sized, withAccount, readAccount, readLine, closed, atEnd, followedBy, reportFrom, reportOf}
-use Rattle.methodology.proofs.Passed.{either, by-test}
-use Rattle.methodology.proofs.Enough.{within, rises}
+use Rattle.methodology.proofs.Passed.{inside, either, by-test}
+use Rattle.methodology.proofs.Enough.{rises}
 
 -- ---- the report's lines
 
@@ -116,8 +116,8 @@ unfolding readPeriod
 short-period i none = refused-most period 9 i
 short-period i (some ns) =
     let n = getD ns 0 0 in
-    by-test (AtMost (most period)) (outside 1 32 n || outside 1 16 (getD ns 1 0)) _ _ (λ e. refused-most period 1 i)
-    (λ e. (within 1 32 n (neither (outside 1 32 n) _ e .0) .1, omega arith))
+    by-test (AtMost (most period)) (nOutside n || kOutside (getD ns 1 0)) _ _ (λ e. refused-most period 1 i)
+    (λ e. (inside _ _ n (neither (nOutside n) _ e .0) .1, omega arith))
 
 short-opened : (x : Refusal) (o : Opening) → o .n ≤ 32 → AtMost (most (member o)) (opened x o)
 unfolding opened step accept
@@ -140,7 +140,7 @@ short-day : (g : Register) (i : ℕ) (read : Option (List ℕ)) → g .held .n �
 unfolding readDay
 short-day g i none few = refused-most (day g) 9 i
 short-day g i (some ns) few =
-    by-test (AtMost (most (day g))) (outside 1 256 (getD ns 1 0)) _ _ (λ e. refused-most (day g) 4 i) (λ e. (few, omega arith))
+    by-test (AtMost (most (day g))) (countOutside (getD ns 1 0)) _ _ (λ e. refused-most (day g) 4 i) (λ e. (few, omega arith))
 
 -- an accepted day's number is above the last, so there is room for its lines
 short-sized : (x : Refusal) (g : Register) (d : DayInput) (i : ℕ) → g .held .n ≤ 32 → refusal g (Call.day d (5 * g .held .n)) ≡ x
@@ -207,6 +207,6 @@ short-from i (l ∷ m ∷ ls) e few =
     let line = by-test (AtMost (most e)) (badBytes l) _ _ (λ b. refused-most e 9 i) (λ b. short-line e i l few) in
     short-followed (most e) _ _ line (short-from (i + 1) (m ∷ ls))
 
-pub short : (text : List ℕ) → length (reportOf text) ≤ 262144
+pub short : (text : List ℕ) → length (reportOf text) ≤ 147456
 unfolding reportOf
 short text = omega (arith, short-from 1 (split LF text) period (omega arith))

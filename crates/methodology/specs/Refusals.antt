@@ -37,10 +37,21 @@ outside least most x = ltb x least || ltb most x
 
 -- ---- opening
 
+-- "n members, numbered 1 to n (1 to 32)"
+abbrev pub nOutside : (n : ℕ) → Bool
+nOutside n = outside 1 32 n
+
+-- "k stress scenarios (1 to 16)"
+abbrev pub kOutside : (k : ℕ) → Bool
+kOutside k = outside 1 16 k
+
+-- "a group number, 0 to 32"
+abbrev pub groupOutside : (group : ℕ) → Bool
+groupOutside group = outside 0 32 group
+
 -- Row 1: "n, k or a group outside its limit, or group list not n long"
 unfoldable pub badOpening : Opening → Bool
-badOpening o =
-    outside 1 32 (o .n) || outside 1 16 (o .k) || any (outside 0 32) (o .groups) || not (eqb (length (o .groups)) (o .n))
+badOpening o = nOutside (o .n) || kOutside (o .k) || any groupOutside (o .groups) || not (eqb (length (o .groups)) (o .n))
 
 -- "opening 2, 1". Row 2: "opening while open"; so it "is accepted when fresh or closed".
 unfoldable pub openingRefusal : Status → Opening → Refusal
@@ -52,15 +63,26 @@ openingRefusal s o = row 2 when isOpen s else row 1 when badOpening o else Clear
 unfoldable pub badDayNumber : (last number : ℕ) → Bool
 badDayNumber last number = outside 1 31 number || leb number last
 
--- Row 4: "accounts not 1 to 256, input lengths that disagree, or output not 5n (day) [..] long". There are as many accounts as headings.
-unfoldable pub badLengths : Opening → DayInput → (room : ℕ) → Bool
-badLengths o d room =
+-- "accounts not 1 to 256"
+abbrev pub countOutside : (count : ℕ) → Bool
+countOutside count = outside 1 256 count
+
+-- Row 4 of what a day brings: "accounts not 1 to 256, input lengths that disagree". There are as many accounts as headings.
+abbrev pub badInput : Opening → DayInput → Bool
+badInput o d =
     let count = length (d .headings) in
-    outside 1 256 count
+    countOutside count
     || not (eqb (length (d .npvs)) (count * (o .k + 1)))
     || not (eqb (length (d .margins)) count)
     || not (eqb (length (d .extras)) count)
-    || not (eqb room (5 * o .n))
+
+-- Row 4 of what it is lent: "output not 5n (day) [..] long"
+abbrev pub badOutput : Opening → (room : ℕ) → Bool
+badOutput o room = not (eqb room (5 * o .n))
+
+-- Row 4, both
+unfoldable pub badLengths : Opening → DayInput → (room : ℕ) → Bool
+badLengths o d room = badInput o d || badOutput o room
 
 -- Row 5, condition by condition. `prev` is the heading before h, and `nobody` before the first.
 

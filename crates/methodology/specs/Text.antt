@@ -12,7 +12,7 @@ use Rattle.numbers.specs.Lists.{any}
 use Rattle.methodology.specs.declared.Refusal.{Refusal}
 use Rattle.methodology.specs.declared.Refusal.the-variants.{Clear, Row, RowAt}
 use Rattle.methodology.specs.Account.{Opening, DayInput, members, kindH, kindR, kindA, kindU}
-use Rattle.methodology.specs.Refusals.{outside}
+use Rattle.methodology.specs.Refusals.{outside, nOutside, kOutside, countOutside}
 use Rattle.methodology.specs.Register.{Call, Register, start, refusal, step, returned, written}
 
 -- ---- bytes
@@ -192,7 +192,7 @@ readPeriod i none = bad i
 readPeriod i (some ns) =
     let n = getD ns 0 0 in
     let k = getD ns 1 0 in
-    cond (outside 1 32 n || outside 1 16 k) (ends (refusedLine 1 i)) (goesOn [] (member (record { n = n; k = k; groups = [] })))
+    cond (nOutside n || kOutside k) (ends (refusedLine 1 i)) (goesOn [] (member (record { n = n; k = k; groups = [] })))
 
 -- "a call is made after its lines are read". "The line is the period line for 1", which is line 1.
 unfoldable pub opened : Refusal → Opening → Read
@@ -213,7 +213,7 @@ readMember o i (some ns) =
 unfoldable pub readDay : Register → (line : ℕ) → Option (List ℕ) → Read
 readDay g i none = bad i
 readDay g i (some ns) =
-    cond (outside 1 256 (getD ns 1 0)) (ends (refusedLine 4 i))
+    cond (countOutside (getD ns 1 0)) (ends (refusedLine 4 i))
     (goesOn [] (account g (record { number = getD ns 0 0; headings = []; npvs = []; margins = []; extras = [] }) i (getD ns 1 0) 0))
 
 -- "the day line for 3, 4 and 7, the account's (or next) line for 5 and 6"

@@ -1,4 +1,4 @@
-// The types that the definitions in specs/ share with the code of the crates that use this one. There is no code here.
+// The types and the kinds that the definitions in specs/ share with the code of the crates that use this one. There is no code here.
 
 // What names an account of a day: its member, its account number and its kind. The fields take any number, since a wrong one is an answer
 // (row 5 of the refusal table) and nothing that a caller must rule out.
@@ -7,6 +7,16 @@ pub struct Heading {
     pub number: u64,
     pub kind: u64,
 }
+
+// The kinds, by document 01's numbers: house; client with a replacement member appointed; client that is an Affiliate; client with no such
+// appointment. The last is the greatest known one.
+pub const KIND_H: u64 = 0;
+
+pub const KIND_R: u64 = 1;
+
+pub const KIND_A: u64 = 2;
+
+pub const KIND_U: u64 = 3;
 
 // A period is fresh, open or closed.
 pub enum Status {

@@ -1,7 +1,7 @@
 -- The member lines, one by one, and the opening call after the last: what is due of all is what is due of those that are left.
 use mathlib.Core.Path.{_≡_, refl, sym, ap, subst, _∙_}
 use mathlib.Core.Bool.{Bool, true, false, cond}
-use mathlib.Core.List.{List, [], _∷_, _++_}
+use mathlib.Core.List.{List, [], _∷_, _++_, append-nil}
 use mathlib.Core.Option.{Option, none, some}
 use Prim.Native.Nat.{ℕ, suc, _+_, _≤_, _<_}
 use native.Mathlib.Omega.{arith}
@@ -11,20 +11,26 @@ use lib.ListN.{length, getD, take, drop, set, length-append, length-set}
 use lib.Seq.{length-take-le, take-suc-set}
 use borrow.Author.Tests.{eqb-true, eq-eqb, ne-eqb}
 use Rattle.methodology.specs.Account.{Opening}
-use Rattle.methodology.specs.Register.{Call, start, refusal}
-use Rattle.methodology.specs.Text.{LF, bytes, split, refusedLine, numbersAfter, member, goesOn, opened, readMember, followedBy, reportFrom}
+use Rattle.methodology.specs.Register.{Call, Register, start, refusal}
+use Rattle.methodology.specs.Text.{LF, bytes, split, refusedLine, numbersAfter, Expected, member, goesOn, opened, readMember, followedBy, reportFrom}
 use Rattle.methodology.specs.Lines.{indexOf, lineRead}
 use Rattle.methodology.proofs.Splits.{member-line}
-use Rattle.lines.specs.declared.Pair.the-variants.{Two, Bad}
-use Rattle.lines.specs.Forms.{pairOf}
+use Rattle.fields.specs.Fields.{RowIs}
+use Rattle.fields.proofs.Parts.{after-is}
+use Rattle.lines.proofs.Words.{row-zero, row-read}
 use Rattle.period.specs.declared.Period.{Period}
 use Rattle.period.specs.declared.Reply.{Reply}
 use Rattle.period.specs.Reading.{brought}
 use Rattle.period.specs.Calls.{freshPeriod, OpeningMeets}
+use Rattle.report.specs.Put.{Put}
+use Rattle.report.proofs.Laws.{put-then}
+use Rattle.answers.specs.Held.{Held}
+use Rattle.answers.specs.Said.{said, isOver}
+use Rattle.answers.proofs.Calls.{opening-said, opening-held}
+use Rattle.day.specs.Turns.{daysDue}
 use Rattle.accounts.specs.declared.Lines.{Lines}
 use Rattle.accounts.specs.declared.Lines.the-variants.{Read, Stopped}
-use Rattle.month.specs.Reading.{membersDue, openingDue, MembersMeet}
-use Rattle.month.proofs.Pairs.{pair-none, Numbers, pair-some, line-inside, after-is}
+use Rattle.month.specs.MemberLines.{membersDue, openingDue, MembersMeet}
 
 -- ---- one line
 
@@ -59,7 +65,7 @@ module _ (text : List ℕ) (p n k j : ℕ) (groups : List ℕ) (long : length gr
   member-more ns e h =
       let z : 2 + j + 1 ≡ 2 + suc j = omega arith in
       member-line o (2 + j) (drop p text)
-      ∙ rw (e, longer (getD ns 1 0), eq-eqb (getD ns 0 0) (suc j) (omega arith), after-is text p, z) (by (eqb (suc j) n) refl)
+      ∙ rw (e, longer (getD ns 1 0), eq-eqb (getD ns 0 0) (suc j) (omega arith), after-is LF text p, z) (by (eqb (suc j) n) refl)
     where
       o′ : Opening
       o′ = brought n k (groups ++ (getD ns 1 0 ∷ []))
@@ -89,40 +95,36 @@ module _ (text : List ℕ) (p n size : ℕ) (enough : n ≤ size) where
       record { few = omega arith; inside = l; passed = omega arith; room = room; same = λ k. rw (ne-eqb 0 n (λ e. omega arith)) }
 
   module _ (groups : List ℕ) (q j : ℕ) (l : Left text p n size groups q j) (h : j < n) where
-    abbrev here : Option (List ℕ)
-    here = lineRead (numbersAfter (bytes "member") 2) (drop q text)
-
-    abbrev end : ℕ
-    end = q + indexOf LF (drop q text) + 1
-
     long : length (take j groups) ≡ j
     long = length-take-le j groups (omega (arith, l .room))
 
     open-left : (k : ℕ) → membersDue text p n k ≡ reportFrom (2 + j) (split LF (drop q text)) (member (brought n k (take j groups)))
     open-left k = l .same k ∙ rw (ne-eqb j n (λ e. omega arith))
 
-    pub left-bad : pairOf here end ≡ Bad → (k : ℕ) → membersDue text p n k ≡ refusedLine 9 (2 + j)
-    left-bad e k = open-left k ∙ member-bad text q n k j (take j groups) long (pair-none here end e)
+    -- the line at q, as it was read
+    module _ (row : List ℕ) (r : ℕ) (found : RowIs (lineRead (numbersAfter (bytes "member") 2) (drop q text)) (q + indexOf LF (drop q text) + 1) row r) where
+      pub left-bad : r ≡ 0 → (k : ℕ) → membersDue text p n k ≡ refusedLine 9 (2 + j)
+      left-bad z k = open-left k ∙ member-bad text q n k j (take j groups) long (row-zero _ _ row r found (omega arith) z)
 
-    module _ (number group r : ℕ) (e : pairOf here end ≡ Two number group r) where
-      abbrev told : Numbers here end number group r
-      told = pair-some here end number group r e
+      module _ (z : r ≡ 0 → ⊥) where
+        abbrev told : (lineRead (numbersAfter (bytes "member") 2) (drop q text) ≡ some row) × (r ≡ q + indexOf LF (drop q text) + 1)
+        told = row-read _ _ row r found z
 
-      pub left-other : (number ≡ j + 1 → ⊥) → (k : ℕ) → membersDue text p n k ≡ refusedLine 9 (2 + j)
-      left-other z k = open-left k ∙ member-other text q n k j (take j groups) long (told .numbers) (told .read) (λ y. z (sym (told .first) ∙ y))
+        pub left-other : (getD row 0 0 ≡ j + 1 → ⊥) → (k : ℕ) → membersDue text p n k ≡ refusedLine 9 (2 + j)
+        left-other m k = open-left k ∙ member-other text q n k j (take j groups) long row (told .0) m
 
-      one-more : take j groups ++ (getD (told .numbers) 1 0 ∷ []) ≡ take (j + 1) (set groups j group)
-      one-more = rw (told .second, add-one j) (sym (take-suc-set groups j group (omega (arith, l .room))))
+        one-more : take j groups ++ (getD row 1 0 ∷ []) ≡ take (j + 1) (set groups j (getD row 1 0))
+        one-more = rw (add-one j) (sym (take-suc-set groups j (getD row 1 0) (omega (arith, l .room))))
 
-      pub left-more : number ≡ j + 1 → Left text p n size (set groups j group) r (j + 1)
-      left-more z =
-          record {
-            few = omega arith;
-            inside = rw (told .index) (line-inside text q _ _ (told .read));
-            passed = omega (arith, told .index, l .passed);
-            room = length-set groups j group ∙ l .room;
-            same = λ k. open-left k ∙ member-more text q n k j (take j groups) long (told .numbers) (told .read) (told .first ∙ z) ∙ (λ i. left text n k (sym (told .index) i) (sym (add-one j) i) (one-more i));
-          }
+        pub left-more : getD row 0 0 ≡ j + 1 → r ≤ length text → Left text p n size (set groups j (getD row 1 0)) r (j + 1)
+        left-more m inside =
+            record {
+              few = omega arith;
+              inside = inside;
+              passed = omega (arith, told .1, l .passed);
+              room = length-set groups j (getD row 1 0) ∙ l .room;
+              same = λ k. open-left k ∙ member-more text q n k j (take j groups) long row (told .0) m ∙ (λ i. left text n k (sym (told .1) i) (sym (add-one j) i) (one-more i));
+            }
 
   pub left-end : (groups : List ℕ) (q j : ℕ) → Left text p n size groups q j → n ≤ j → (k : ℕ) → membersDue text p n k ≡ openingDue text q (brought n k (take n groups))
   left-end groups q j l h k =
@@ -143,3 +145,17 @@ module _ (text : List ℕ) (p n : ℕ) (groups : List ℕ) (r : Lines) (m : Memb
 
 pub from-fresh : {p : Period} {o : Opening} {r : Reply} → p ≡ freshPeriod → OpeningMeets p o r → OpeningMeets freshPeriod o r
 from-fresh {o = o} {r = r} e m = subst (λ (p : Period). OpeningMeets p o r) e m
+
+-- ---- what the opening call says, and the days after it
+
+module _ (text : List ℕ) (n k next : ℕ) (groups : List ℕ) (r : Reply) (m : OpeningMeets freshPeriod (brought n k groups) r)
+    (out out′ : List ℕ) (end : ℕ) (w : Put out 0 (said (r .outcome) 0 1 0 []) out′ end) where
+  abbrev rest : Expected → List ℕ
+  rest e = reportFrom (2 + n) (split LF (drop next text)) e
+
+  pub opening-ends : isOver (r .outcome) ≡ true → Put out 0 (openingDue text next (brought n k groups)) out′ end
+  opening-ends q = rw (opening-said n k groups r m rest, q, append-nil (said (r .outcome) 0 1 0 [])) w
+
+  pub opening-goes-on : (final : List ℕ) (last : ℕ) → isOver (r .outcome) ≡ false
+      → ((g : Register) → Held g (r .period) n k → Put out′ end (daysDue text next (2 + n) g) final last) → Put out 0 (openingDue text next (brought n k groups)) final last
+  opening-goes-on final last q f = rw (opening-said n k groups r m rest, q) (put-then w (f _ (opening-held n k groups r m q)))

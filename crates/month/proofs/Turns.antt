@@ -2,7 +2,7 @@
 use mathlib.Core.Path.{_≡_, sym, ap, _∙_}
 use mathlib.Core.Bool.{true, false, _||_}
 use mathlib.Core.List.{List, []}
-use mathlib.Core.Option.{Option}
+use mathlib.Core.Option.{Option, some}
 use Prim.Native.Nat.{ℕ, _+_, _-_, _*_, _≤_, _<_}
 use native.Mathlib.Omega.{arith}
 use lib.Dec.{eqb}
@@ -12,75 +12,59 @@ use borrow.Author.Tests.{ltb-true, lt-ltb, le-ltb}
 use Rattle.numbers.proofs.Tests.{both}
 use Rattle.numbers.proofs.Lists.{first-le}
 use Rattle.methodology.specs.Register.{Call, Register, refusal}
-use Rattle.methodology.specs.Refusals.{outside}
+use Rattle.methodology.specs.Refusals.{nOutside, kOutside, countOutside}
 use Rattle.methodology.specs.Text.{LF, bytes, same, split, numbersAfter, refusedLine, afterEnd, readPeriod, readDay, closed, followedBy, reportFrom, reportOf}
 use Rattle.methodology.specs.Lines.{indexOf, has, before, isEnd, lineRead}
 use Rattle.methodology.proofs.Splits.{split-first, same-eq, period-line, end-line, day-line, nothing-after, something-after}
-use Rattle.fields.proofs.Parts.{tail-is}
-use Rattle.lines.specs.declared.Pair.the-variants.{Two, Bad}
-use Rattle.lines.specs.Forms.{pairOf}
-use Rattle.accounts.specs.Reading.{accountsDue}
+use Rattle.fields.proofs.Parts.{tail-is, after-is}
+use Rattle.fields.specs.Fields.{RowIs}
+use Rattle.lines.proofs.Words.{row-zero, row-read}
+use Rattle.accounts.specs.AcctLines.{accountsDue}
 use Rattle.day.specs.Turns.{daysDue}
-use Rattle.month.specs.Reading.{membersDue}
-use Rattle.month.proofs.Pairs.{pair-none, Numbers, pair-some, line-inside, after-is}
+use Rattle.month.specs.MemberLines.{membersDue}
 
 -- ---- the period line
 
-module _ (text : List ℕ) where
-  abbrev head : Option (List ℕ)
-  head = lineRead (numbersAfter (bytes "period") 2) (drop 0 text)
-
-  abbrev head-end : ℕ
-  head-end = 0 + indexOf LF (drop 0 text) + 1
-
-  pub period-bad : pairOf head head-end ≡ Bad → reportOf text ≡ refusedLine 9 1
+module _ (text row : List ℕ) (r : ℕ) (found : RowIs (lineRead (numbersAfter (bytes "period") 2) (drop 0 text)) (0 + indexOf LF (drop 0 text) + 1) row r) where
+  pub period-bad : r ≡ 0 → reportOf text ≡ refusedLine 9 1
   unfolding reportOf readPeriod followedBy
-  period-bad e = period-line 1 text ∙ rw (pair-none head head-end e)
+  period-bad z = period-line 1 text ∙ rw (row-zero _ _ row r found (omega arith) z)
 
-  module _ (n k r : ℕ) (e : pairOf head head-end ≡ Two n k r) where
-    abbrev told : Numbers head head-end n k r
-    told = pair-some head head-end n k r e
+  module _ (z : r ≡ 0 → ⊥) (n k : ℕ) (first : getD row 0 0 ≡ n) (second : getD row 1 0 ≡ k) where
+    abbrev told : (lineRead (numbersAfter (bytes "period") 2) (drop 0 text) ≡ some row) × (r ≡ 0 + indexOf LF (drop 0 text) + 1)
+    told = row-read _ _ row r found z
 
-    pub period-outside : (outside 1 32 n || outside 1 16 k) ≡ true → reportOf text ≡ refusedLine 1 1
+    pub period-outside : (nOutside n || kOutside k) ≡ true → reportOf text ≡ refusedLine 1 1
     unfolding reportOf readPeriod followedBy
-    period-outside h = period-line 1 text ∙ rw (told .read, told .first, told .second, h)
+    period-outside h = period-line 1 text ∙ rw (told .0, first, second, h)
 
-    pub period-good : (outside 1 32 n || outside 1 16 k) ≡ false → reportOf text ≡ membersDue text r n k
+    pub period-good : (nOutside n || kOutside k) ≡ false → reportOf text ≡ membersDue text r n k
     unfolding reportOf readPeriod followedBy
-    period-good h = period-line 1 text ∙ rw (told .read, told .first, told .second, h, after-is text 0, told .index)
-
-    pub period-inside : r ≤ length text
-    period-inside = rw (told .index) (line-inside text 0 _ _ (told .read))
+    period-good h = period-line 1 text ∙ rw (told .0, first, second, h, after-is LF text 0, told .1)
 
 -- ---- a day line
 
-module _ (text : List ℕ) (p line : ℕ) (g : Register) (d : isEnd (drop p text) ≡ false) where
-  abbrev here : Option (List ℕ)
-  here = lineRead (numbersAfter (bytes "day") 2) (drop p text)
-
-  abbrev end : ℕ
-  end = p + indexOf LF (drop p text) + 1
-
-  pub day-bad : pairOf here end ≡ Bad → daysDue text p line g ≡ refusedLine 9 line
+module _ (text : List ℕ) (p line : ℕ) (g : Register) (d : isEnd (drop p text) ≡ false)
+    (row : List ℕ) (r : ℕ) (found : RowIs (lineRead (numbersAfter (bytes "day") 2) (drop p text)) (p + indexOf LF (drop p text) + 1) row r) where
+  pub day-bad : r ≡ 0 → daysDue text p line g ≡ refusedLine 9 line
   unfolding readDay followedBy
-  day-bad e = day-line g line (drop p text) d ∙ rw (pair-none here end e)
+  day-bad z = day-line g line (drop p text) d ∙ rw (row-zero _ _ row r found (omega arith) z)
 
-  module _ (number count r : ℕ) (e : pairOf here end ≡ Two number count r) where
-    abbrev day-told : Numbers here end number count r
-    day-told = pair-some here end number count r e
+  module _ (z : r ≡ 0 → ⊥) (number count : ℕ) (first : getD row 0 0 ≡ number) (second : getD row 1 0 ≡ count) where
+    abbrev day-told : (lineRead (numbersAfter (bytes "day") 2) (drop p text) ≡ some row) × (r ≡ p + indexOf LF (drop p text) + 1)
+    day-told = row-read _ _ row r found z
 
-    pub day-outside : outside 1 256 count ≡ true → daysDue text p line g ≡ refusedLine 4 line
+    pub day-outside : countOutside count ≡ true → daysDue text p line g ≡ refusedLine 4 line
     unfolding readDay followedBy
-    day-outside h = day-line g line (drop p text) d ∙ rw (day-told .read, day-told .second, h)
+    day-outside h = day-line g line (drop p text) d ∙ rw (day-told .0, second, h)
 
-    pub day-good : outside 1 256 count ≡ false → daysDue text p line g ≡ accountsDue text r g number line count
+    pub day-good : countOutside count ≡ false → daysDue text p line g ≡ accountsDue text r g number line count
     unfolding readDay followedBy
-    day-good h = day-line g line (drop p text) d ∙ rw (day-told .read, day-told .first, day-told .second, h, after-is text p, day-told .index)
+    day-good h = day-line g line (drop p text) d ∙ rw (day-told .0, first, second, h, after-is LF text p, day-told .1)
 
-pub pair-inside : (text word : List ℕ) (p a b r : ℕ) → pairOf (lineRead (numbersAfter word 2) (drop p text)) (p + indexOf LF (drop p text) + 1) ≡ Two a b r → (p + 1 ≤ r) × (r ≤ length text)
-pair-inside text word p a b r e =
-    let t = pair-some (lineRead (numbersAfter word 2) (drop p text)) _ a b r e in
-    (omega (arith, t .index), rw (t .index) (line-inside text p _ _ (t .read)))
+-- the index after a line that was read
+pub line-after : (text : List ℕ) (p : ℕ) (o : Option (List ℕ)) (row : List ℕ) (r : ℕ) → RowIs o (p + indexOf LF (drop p text) + 1) row r → (r ≡ 0 → ⊥) → p + 1 ≤ r
+line-after text p o row r found z = omega (arith, row-read o _ row r found z .1)
 
 -- ---- the end line
 
@@ -99,7 +83,7 @@ module _ (text : List ℕ) (p : ℕ) (e : isEnd (drop p text) ≡ true) where
   pub end-due : (line : ℕ) (g : Register) → daysDue text p line g ≡ reportFrom (line + 1) (split LF (drop (p + 4) text)) (afterEnd g line)
   end-due line g =
       let z : p + indexOf LF (drop p text) + 1 ≡ p + 4 = omega (arith, end-index) in
-      end-line g line (drop p text) e ∙ ap (λ (x : List ℕ). reportFrom (line + 1) (split LF x) (afterEnd g line)) (after-is text p ∙ ap (λ (m : ℕ). drop m text) z)
+      end-line g line (drop p text) e ∙ ap (λ (x : List ℕ). reportFrom (line + 1) (split LF x) (afterEnd g line)) (after-is LF text p ∙ ap (λ (m : ℕ). drop m text) z)
 
 -- ---- how the end line is told
 

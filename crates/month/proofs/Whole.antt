@@ -1,4 +1,4 @@
--- The report of an input of which no more is read than 2,162,688 bytes, put into a buffer of 262,144: no later byte can change it, and it
+-- The report of an input of which no more is read than 2,162,688 bytes, put into a buffer of 147,456: no later byte can change it, and it
 -- fits.
 use mathlib.Core.List.{List}
 use mathlib.Core.Path.{_≡_, sym, ap, _∙_}
@@ -13,7 +13,7 @@ use Rattle.report.specs.Put.{Put}
 use Rattle.report.proofs.Laws.{put-length, put-all}
 
 -- n bytes of the text were read
-module _ (text out out′ : List ℕ) (n r : ℕ) (room : length out ≡ 262144) (w : Put out 0 (reportOf (take (n - 0) text)) out′ r) where
+module _ (text out out′ : List ℕ) (n r : ℕ) (room : length out ≡ 147456) (w : Put out 0 (reportOf (take (n - 0) text)) out′ r) where
   fits : r ≤ length out
   fits = omega (arith, w .next, short (take (n - 0) text))
 

@@ -1,14 +1,11 @@
 // The days of a month and its end.
+use answers::say;
 use day::Turn;
 use day::take_day;
-use lines::Pair;
-use lines::pair_at;
-use period::Outcome;
+use lines::numbers_at;
 use period::Period;
-use report::put_bytes;
-use report::put_line;
 use report::put_refused;
-use report::put_rows;
+use validation::limits::count_outside;
 ghost use mathlib.Core.Path.{_≡_};
 ghost use Prim.Native.Nat.{_+_, _*_, _≤_, ℕ};
 ghost use lib.ListN.{length, drop};
@@ -16,8 +13,8 @@ ghost use Rattle.methodology.specs.Register.{Call, Register, refusal};
 ghost use Rattle.methodology.specs.Lines.{isEnd};
 ghost use Rattle.methodology.specs.Text.{LF, afterEnd, split, closed, reportFrom};
 ghost use Rattle.report.specs.Put.{Put};
-ghost use Rattle.day.specs.Turns.{daysDue, Held, TurnMeets, Stands};
-ghost use Rattle.month.specs.Reading.{closingSaid};
+ghost use Rattle.answers.specs.Held.{Held};
+ghost use Rattle.day.specs.Turns.{daysDue, TurnMeets, Stands};
 
 // Whether the line at index p is the end line.
 fn is_end(text: &[u8], p: usize) -> bool
@@ -31,32 +28,7 @@ fn is_end(text: &[u8], p: usize) -> bool
     fields::same(line, b"end")
 }
 
-// Prints what the closing call said; the end line is line `line`.
-fn say_closing(
-    outcome: Outcome,
-    line: u64,
-    n: usize,
-    figures: &[u64],
-    out: &mut [u8],
-    at: usize,
-) -> usize
-    requires { ⌜ (n ≤ 32) × (3 * n ≤ length (now figures)) ⌝ }
-    ensures { λ r. ⌜ Put (now (out .entry)) at (closingSaid outcome line n (now (figures .entry))) (now (out .exit)) r ⌝ }
-{
-    match outcome {
-        Outcome::Closed(days, highest, funds) => {
-            let numbers = [days, highest, funds];
-            let next = put_line(out, at, b"fund", &numbers);
-            put_rows(out, next, b"contribution", 3, n, figures)
-        }
-        Outcome::Refused(number) => put_refused(out, at, number, line),
-        Outcome::RefusedAt(number, _) => put_refused(out, at, number, line),
-        Outcome::Opened => put_bytes(out, at, b""),
-        Outcome::Sized(_, _) => put_bytes(out, at, b""),
-    }
-}
-
-// Makes the closing call.
+// Makes the closing call and prints what it says.
 fn close(
     line: u64,
     n: usize,
@@ -70,7 +42,7 @@ fn close(
 {
     let reply = period.closing(figures);
     let outcome = reply.outcome;
-    say_closing(outcome, line, n, figures, out, at)
+    say(outcome, 0, line, n, figures, out, at)
 }
 
 // The report after the end line, which is line `line`: nothing follows it, and the closing call is made.
@@ -120,8 +92,9 @@ fn turn_at(
             period,
         };
     }
-    let head = pair_at(text, p, b"day");
-    let Pair::Two(number, count, next) = head else {
+    let mut head = [0u64; 2]; // day number, accounts
+    let next = numbers_at(text, p, b"day", &mut head);
+    if next == 0 {
         let end = put_refused(out, at, 9, line);
         return Turn {
             over: true,
@@ -130,8 +103,10 @@ fn turn_at(
             at: end,
             period,
         };
-    };
-    if count < 1 || 256 < count {
+    }
+    let number = head[0];
+    let count = head[1];
+    if count_outside(count) {
         let end = put_refused(out, at, 4, line);
         return Turn {
             over: true,

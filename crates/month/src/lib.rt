@@ -3,9 +3,10 @@ mod days;
 mod members;
 
 use crate::members::from_members;
-use lines::Pair;
-use lines::pair_at;
+use lines::numbers_at;
 use report::put_refused;
+use validation::limits::k_outside;
+use validation::limits::n_outside;
 ghost use Rattle.methodology.specs.Text.{reportOf};
 ghost use Rattle.report.specs.Put.{Put};
 
@@ -13,11 +14,14 @@ ghost use Rattle.report.specs.Put.{Put};
 pub fn report(text: &[u8], out: &mut [u8]) -> usize
     ensures { λ r. ⌜ Put (now (out .entry)) 0 (reportOf (now (text .entry))) (now (out .exit)) r ⌝ }
 {
-    let head = pair_at(text, 0, b"period");
-    let Pair::Two(n, k, next) = head else {
+    let mut head = [0u64; 2]; // n, k
+    let next = numbers_at(text, 0, b"period", &mut head);
+    if next == 0 {
         return put_refused(out, 0, 9, 1);
-    };
-    if n < 1 || 32 < n || k < 1 || 16 < k {
+    }
+    let n = head[0];
+    let k = head[1];
+    if n_outside(n) || k_outside(k) {
         return put_refused(out, 0, 1, 1);
     }
     from_members(text, next, n as usize, k as usize, out)

@@ -1,16 +1,15 @@
 // The member lines, and the opening call that they ask for.
 use crate::days::days;
 use accounts::Lines;
-use lines::Pair;
-use lines::pair_at;
-use period::Outcome;
+use answers::is_over;
+use answers::say;
+use lines::numbers_at;
 use period::Period;
-use report::put_bytes;
 use report::put_refused;
 ghost use Prim.Native.Nat.{_≤_};
 ghost use lib.ListN.{length};
 ghost use Rattle.report.specs.Put.{Put};
-ghost use Rattle.month.specs.Reading.{membersDue, MembersMeet};
+ghost use Rattle.month.specs.MemberLines.{membersDue, MembersMeet};
 
 // Reads the n member lines from index p on, the groups into the slice.
 fn read_members(text: &[u8], p: usize, n: usize, groups: &mut [u64]) -> Lines
@@ -21,14 +20,15 @@ fn read_members(text: &[u8], p: usize, n: usize, groups: &mut [u64]) -> Lines
     let mut at = p;
     let mut j: usize = 0;
     while j < n {
-        let pair = pair_at(text, at, b"member");
-        let Pair::Two(member, group, next) = pair else {
-            return Lines::Stopped(j);
-        };
-        if member != j as u64 + 1 {
+        let mut line = [0u64; 2]; // member, group
+        let next = numbers_at(text, at, b"member", &mut line);
+        if next == 0 {
             return Lines::Stopped(j);
         }
-        groups[j] = group;
+        if line[0] != j as u64 + 1 {
+            return Lines::Stopped(j);
+        }
+        groups[j] = line[1];
         at = next;
         j += 1;
     }
@@ -52,14 +52,10 @@ pub fn from_members(text: &[u8], p: usize, n: usize, k: usize, out: &mut [u8]) -
     let period = Period::fresh();
     let reply = period.opening(n as u64, k as u64, &groups[..n]);
     let outcome = reply.outcome;
-    match outcome {
-        Outcome::Opened => {
-            let after = reply.period;
-            days(text, next, 2 + n as u64, n, k, after, out, 0)
-        }
-        Outcome::Refused(number) => put_refused(out, 0, number, 1),
-        Outcome::RefusedAt(number, _) => put_refused(out, 0, number, 1),
-        Outcome::Sized(_, _) => put_bytes(out, 0, b""),
-        Outcome::Closed(_, _, _) => put_bytes(out, 0, b""),
+    let after = reply.period;
+    let end = say(outcome, 0, 1, 0, &[], out, 0); // no day's number, line 1, no figures of members
+    if is_over(outcome) {
+        return end;
     }
+    days(text, next, 2 + n as u64, n, k, after, out, end)
 }

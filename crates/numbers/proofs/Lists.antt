@@ -1,7 +1,7 @@
 -- Lists: members, ranges, tables, parts, kept elements, and the first that passes a test. An element is read by `getD`.
 -- A law about each element takes a function on the members, `(x : A) → x ∈ xs → ..`; `by-index` makes one of a fact about each index.
 use mathlib.Core.Path.{_≡_, refl, sym, ap, ap₂, _∙_, subst}
-use mathlib.Core.Bool.{Bool, true, false, cond, _&&_, _||_, or-assoc, or-true, true≢false}
+use mathlib.Core.Bool.{Bool, true, false, cond, _||_, or-true}
 use mathlib.Core.List.{List, [], _∷_, _++_, map, flatMap, append-nil}
 use mathlib.Core.List.{List·Memᴰ, List·Memᴰ·head as here, List·Memᴰ·tail as there, List·Memᴰ·not-nil}
 use Prim.Native.Nat.{ℕ, zero, suc, _+_, _-_, _≤_, _<_}
@@ -11,6 +11,7 @@ use native.Mathlib.Nat.{not-suc-le-zero, le-of-suc-le-suc, add-zero, zero-add, s
 use lib.Dec.{eqb}
 use lib.ListN.{length, getD, take, drop, set, replicate, length-map, length-drop, drop-of-length-le}
 use lib.Seq.{drop-cons, drop-drop, take-nil, drop-nil, take-take, getD-take, getD-drop, getD-set-same, getD-set-other, length-take-le, ext-getD}
+use borrow.Author.Count.{below-none, below-more}
 use borrow.Author.Tests.{eqb-true, eqb-false}
 use Rattle.numbers.specs.Lists.{range, keep, any, firstWhere, Every}
 use Rattle.numbers.proofs.Tests.{neither}
@@ -26,7 +27,7 @@ mem-at [] d h = absurd (not-suc-le-zero h)
 mem-at (x ∷ xs) d {i = zero} h = here refl
 mem-at (x ∷ xs) d {i = suc i} h = there (mem-at xs d (le-of-suc-le-suc h))
 
-pub mem-index : {A : Type 0} {x : A} {xs : List A} (d : A) → x ∈ xs → (i : ℕ) × (i < length xs) × (getD xs i d ≡ x)
+mem-index : {A : Type 0} {x : A} {xs : List A} (d : A) → x ∈ xs → (i : ℕ) × (i < length xs) × (getD xs i d ≡ x)
 mem-index d (here e) = (0, omega arith, sym e)
 mem-index d (there m) = let (i, h, e) = mem-index d m in (suc i, omega arith, e)
 
@@ -73,12 +74,6 @@ range-at a zero i d h = absurd (not-suc-le-zero h)
 range-at a (suc n) zero d h = sym (add-zero a)
 range-at a (suc n) (suc i) d h = range-at (suc a) n i d (le-of-suc-le-suc h) ∙ omega arith
 
-pub range-drop : (a n i : ℕ) → drop i (range a n) ≡ range (a + i) (n - i)
-unfolding range
-range-drop a n zero = rw (add-zero, sub-zero)
-range-drop a zero (suc i) = rw zero-sub
-range-drop a (suc n) (suc i) = rw (add-suc, ← suc-add, suc-sub-suc) (range-drop (suc a) n i)
-
 pub range-append : (a m n : ℕ) → range a (m + n) ≡ range a m ++ range (a + m) n
 unfolding range
 range-append a zero n = rw (add-zero, zero-add)
@@ -108,18 +103,8 @@ range-mem {x} a n h k =
     let e : a + (x - a) ≡ x = omega arith in
     subst (λ (y : ℕ). y ∈ range a n) (range-at a n (x - a) 0 l ∙ e) (mem-at (range a n) 0 (omega (arith, range-length a n)))
 
--- what a map gives for a part and for an element, and when two maps are equal; the library has the rest
+-- what a map gives for an element, and when two maps are equal; the library has the rest
 module _ {A B : Type 0} (f : A → B) where
-  pub map-take : (xs : List A) (n : ℕ) → map f (take n xs) ≡ take n (map f xs)
-  map-take xs zero = refl
-  map-take [] (suc n) = refl
-  map-take (x ∷ xs) (suc n) = ap (λ (l : List B). f x ∷ l) (map-take xs n)
-
-  pub map-drop : (xs : List A) (n : ℕ) → map f (drop n xs) ≡ drop n (map f xs)
-  map-drop xs zero = refl
-  map-drop [] (suc n) = refl
-  map-drop (x ∷ xs) (suc n) = map-drop xs n
-
   pub map-at : (xs : List A) (i : ℕ) (d : A) (e : B) → i < length xs → getD (map f xs) i e ≡ f (getD xs i d)
   map-at [] i d e h = absurd (not-suc-le-zero h)
   map-at (x ∷ xs) zero d e h = refl
@@ -136,9 +121,6 @@ module _ {B : Type 0} (f : ℕ → B) (a n : ℕ) where
 
   pub table-at : (i : ℕ) (d : B) → i < n → getD (map f (range a n)) i d ≡ f (a + i)
   table-at i d h = map-at f (range a n) i 0 d (omega (arith, range-length a n)) ∙ ap f (range-at a n i 0 h)
-
-  pub table-drop : (i : ℕ) → drop i (map f (range a n)) ≡ map f (range (a + i) (n - i))
-  table-drop i = sym (map-drop f (range a n) i) ∙ ap (map f) (range-drop a n i)
 
   pub is-table : (d : B) (l : List B) → length l ≡ n → ((i : ℕ) → i < n → getD l i d ≡ f (a + i)) → l ≡ map f (range a n)
   is-table d l e h = ext-getD d l (map f (range a n)) (e ∙ sym table-length) (λ i k. let k′ : i < n = omega arith in h i k′ ∙ sym (table-at i d k′))
@@ -177,7 +159,7 @@ module _ {A : Type 0} where
 
 -- the elements that pass a test
 module _ {A : Type 0} (p : A → Bool) where
-  pub keep-append : (xs ys : List A) → keep p (xs ++ ys) ≡ keep p xs ++ keep p ys
+  keep-append : (xs ys : List A) → keep p (xs ++ ys) ≡ keep p xs ++ keep p ys
   unfolding keep
   keep-append [] ys = refl
   keep-append (x ∷ xs) ys = rw (keep-append xs ys) (by (p x))
@@ -203,16 +185,7 @@ module _ {A : Type 0} (p : A → Bool) where
   unfolding keep
   keep-snoc-skip xs x e = rw (keep-append xs (x ∷ []), e, append-nil)
 
-  -- how many, and which
-  pub keep-length : (xs : List A) → length (keep p xs) ≤ length xs
-  unfolding keep
-  keep-length [] = omega arith
-  keep-length (x ∷ xs) = by (p x) (keep-length xs)
-    where
-      by : (t : Bool) → length (keep p xs) ≤ length xs → length (cond t (x ∷ keep p xs) (keep p xs)) ≤ suc (length xs)
-      by true h = omega arith
-      by false h = omega arith
-
+  -- which they are
   pub mem-keep : {x : A} (xs : List A) → x ∈ keep p xs → (x ∈ xs) × (p x ≡ true)
   unfolding keep
   mem-keep [] m = absurd (List·Memᴰ·not-nil m)
@@ -223,36 +196,8 @@ module _ {A : Type 0} (p : A → Bool) where
       by true e h (there m) = (there (h m .0), h m .1)
       by false e h m = (there (h m .0), h m .1)
 
-  pub keep-mem : {x : A} {xs : List A} → x ∈ xs → p x ≡ true → x ∈ keep p xs
-  unfolding keep
-  keep-mem {x} (here e) h = rw (ap p (sym e) ∙ h) (here e)
-  keep-mem {x} (there {x = y} {xs = ys} m) h = by (p y) (keep-mem m h)
-    where
-      by : (t : Bool) → x ∈ keep p ys → x ∈ cond t (y ∷ keep p ys) (keep p ys)
-      by true k = there k
-      by false k = k
-
-pub keep-eq : {A : Type 0} (p q : A → Bool) (xs : List A) → ((x : A) → x ∈ xs → p x ≡ q x) → keep p xs ≡ keep q xs
-unfolding keep
-keep-eq p q [] h = refl
-keep-eq p q (x ∷ xs) h = rw (h x (here refl), keep-eq p q xs (λ y m. h y (there m)))
-
-pub keep-keep : {A : Type 0} (p q : A → Bool) (xs : List A) → keep p (keep q xs) ≡ keep (λ x. q x && p x) xs
-unfolding keep
-keep-keep p q [] = refl
-keep-keep p q (x ∷ xs) = rw (← keep-keep p q xs) (by (q x) (p x) refl)
-  where
-    by : (s t : Bool) → p x ≡ t → keep p (cond s (x ∷ keep q xs) (keep q xs)) ≡ cond (s && t) (x ∷ keep p (keep q xs)) (keep p (keep q xs))
-    by true true e = rw e
-    by true false e = rw e
-    by false t e = refl
-
-pub keep-all : {A : Type 0} (p : A → Bool) (xs : List A) → ((x : A) → x ∈ xs → p x ≡ true) → keep p xs ≡ xs
-unfolding keep
-keep-all p [] h = refl
-keep-all p (x ∷ xs) h = rw (h x (here refl), keep-all p xs (λ y m. h y (there m)))
-
-pub keep-none : {A : Type 0} (p : A → Bool) (xs : List A) → ((x : A) → x ∈ xs → p x ≡ false) → keep p xs ≡ []
+-- where none passes
+keep-none : {A : Type 0} (p : A → Bool) (xs : List A) → ((x : A) → x ∈ xs → p x ≡ false) → keep p xs ≡ []
 unfolding keep
 keep-none p [] h = refl
 keep-none p (x ∷ xs) h = rw (h x (here refl), keep-none p xs (λ y m. h y (there m)))
@@ -282,11 +227,6 @@ keep-part p (x ∷ xs) d (suc a) (suc b) h k f g e =
 
 -- whether any element passes a test: it fails at each member where none does
 module _ {A : Type 0} (p : A → Bool) where
-  pub any-append : (xs ys : List A) → any p (xs ++ ys) ≡ (any p xs || any p ys)
-  unfolding any
-  any-append [] ys = refl
-  any-append (x ∷ xs) ys = ap (λ (t : Bool). p x || t) (any-append xs ys) ∙ sym (or-assoc (p x) (any p xs) (any p ys))
-
   pub any-false : {x : A} {xs : List A} → any p xs ≡ false → x ∈ xs → p x ≡ false
   unfolding any
   any-false e (here q) = ap p q ∙ neither _ _ e .0
@@ -297,24 +237,29 @@ module _ {A : Type 0} (p : A → Bool) where
   none-any [] h = refl
   none-any (x ∷ xs) h = rw (h x (here refl)) (none-any xs (λ y m. h y (there m)))
 
-  -- a search that passed every index
-  pub any-none : (xs : List A) (d : A) (i : ℕ) → length xs ≤ i → ((j : ℕ) → j < i → p (getD xs j d) ≡ false) → any p xs ≡ false
-  any-none xs d i h f = none-any xs (by-index (λ x. p x ≡ false) xs d (λ j l. f j (omega arith)))
-
-  -- where one does
-  pub any-true : (xs : List A) → any p xs ≡ true → (x : A) × (x ∈ xs) × (p x ≡ true)
-  unfolding any
-  any-true [] e = absurd (true≢false (sym e))
-  any-true (x ∷ xs) e = by (p x) refl e (any-true xs)
-    where
-      by : (t : Bool) → p x ≡ t → (t || any p xs) ≡ true → (any p xs ≡ true → (y : A) × (y ∈ xs) × (p y ≡ true)) → (y : A) × (y ∈ (x ∷ xs)) × (p y ≡ true)
-      by true q e h = (x, here refl, q)
-      by false q e h = let (y, m, k) = h e in (y, there m, k)
-
-  pub some-any : {x : A} {xs : List A} → x ∈ xs → p x ≡ true → any p xs ≡ true
+  some-any : {x : A} {xs : List A} → x ∈ xs → p x ≡ true → any p xs ≡ true
   unfolding any
   some-any (here e) h = rw (ap p (sym e) ∙ h)
   some-any (there {x = y} m) h = rw (some-any m h) (or-true (p y))
+
+-- the search as a loop: no element before i passes
+pub record NoneBefore {A : Type 0} (p : A → Bool) (xs : List A) (d : A) (i : ℕ) : Type 0 where
+  pub high : i ≤ length xs
+  pub fails : (j : ℕ) → j < i → p (getD xs j d) ≡ false
+
+-- its start, its step, and its end where one passes and where none does
+module _ {A : Type 0} (p : A → Bool) (xs : List A) (d : A) where
+  pub none-before : NoneBefore p xs d 0
+  none-before = record { high = omega arith; fails = below-none _ }
+
+  pub none-more : (i : ℕ) → i < length xs → p (getD xs i d) ≡ false → NoneBefore p xs d i → NoneBefore p xs d (i + 1)
+  none-more i h e n = record { high = omega arith; fails = below-more _ i (n .fails) e }
+
+  pub any-found : (i : ℕ) → i < length xs → p (getD xs i d) ≡ true → any p xs ≡ true
+  any-found i h e = some-any p (mem-at xs d h) e
+
+  pub any-none : (i : ℕ) → length xs ≤ i → NoneBefore p xs d i → any p xs ≡ false
+  any-none i h n = none-any p xs (by-index (λ x. p x ≡ false) xs d (λ j l. n .fails j (omega arith)))
 
 -- over a mapped list
 pub any-map : {A B : Type 0} (p : B → Bool) (f : A → B) (xs : List A) → any p (map f xs) ≡ any (λ x. p (f x)) xs
@@ -322,7 +267,7 @@ unfolding any
 any-map p f [] = refl
 any-map p f (x ∷ xs) = ap (λ (t : Bool). p (f x) || t) (any-map p f xs)
 
--- the first that passes a test: all before it fail, it passes if there is one, and no other index is so
+-- the first that passes a test: all before it fail, and no other index is so
 module _ {A : Type 0} (p : A → Bool) where
   pub first-le : (xs : List A) → firstWhere p xs ≤ length xs
   unfolding firstWhere
@@ -342,15 +287,6 @@ module _ {A : Type 0} (p : A → Bool) where
       by true q i h f = absurd (not-suc-le-zero h)
       by false q zero h f = q
       by false q (suc i) h f = f i (le-of-suc-le-suc h)
-
-  pub first-at : (xs : List A) (d : A) → firstWhere p xs < length xs → p (getD xs (firstWhere p xs) d) ≡ true
-  unfolding firstWhere
-  first-at [] d h = absurd (not-suc-le-zero h)
-  first-at (x ∷ xs) d h = by (p x) refl h (first-at xs d)
-    where
-      by : (t : Bool) → p x ≡ t → cond t 0 (suc (firstWhere p xs)) < suc (length xs) → (firstWhere p xs < length xs → p (getD xs (firstWhere p xs) d) ≡ true) → p (getD (x ∷ xs) (cond t 0 (suc (firstWhere p xs))) d) ≡ true
-      by true q h f = q
-      by false q h f = f (le-of-suc-le-suc h)
 
   pub first-is : (xs : List A) (i : ℕ) (d : A) → i ≤ length xs → ((j : ℕ) → j < i → p (getD xs j d) ≡ false) → (i < length xs → p (getD xs i d) ≡ true) → firstWhere p xs ≡ i
   unfolding firstWhere
@@ -388,7 +324,7 @@ pub every-map : {A B : Type 0} (P : B → Type 0) (f : A → B) (xs : List A) �
 every-map P f [] h = tt
 every-map P f (x ∷ xs) h = (h x (here refl), every-map P f xs (λ y i. h y (there i)))
 
-pub every-append : {A : Type 0} (P : A → Type 0) (xs ys : List A) → Every P xs → Every P ys → Every P (xs ++ ys)
+every-append : {A : Type 0} (P : A → Type 0) (xs ys : List A) → Every P xs → Every P ys → Every P (xs ++ ys)
 every-append P [] ys h k = k
 every-append P (x ∷ xs) ys h k = (h .0, every-append P xs ys (h .1) k)
 

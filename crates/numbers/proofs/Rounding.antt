@@ -1,9 +1,9 @@
 -- Laws of a fraction p / q, rounded up and rounded to the nearest. Two bounds on its multiple of q single out the rounded number, and every
 -- other law follows from these bounds by `nearby`. Each law takes p and q, and that q is above 0, first.
-use mathlib.Core.Path.{_≡_, refl, sym, ap}
-use Prim.Native.Nat.{ℕ, zero, suc, _+_, _-_, _*_, _/_, _%_, _<_, _≤_}
+use mathlib.Core.Path.{_≡_, sym, ap}
+use Prim.Native.Nat.{ℕ, _+_, _-_, _*_, _/_, _%_, _<_, _≤_}
 use native.Mathlib.Omega.{arith}
-use native.Mathlib.Nat.{le-trans, le-antisymm, le-of-eq, pos-of-ne-zero, mul-pos, mul-le-mul-left, mul-le-mul-right, mul-lt-mul-of-pos-left, lt-of-mul-lt-mul-right, div-mul-le-self, lt-div-mul-add, div-add-mod', mod-lt, div-eq-of-lt}
+use native.Mathlib.Nat.{le-trans, le-antisymm, mul-pos, mul-le-mul-left, mul-le-mul-right, lt-of-mul-lt-mul-right, div-mul-le-self, lt-div-mul-add, div-add-mod', mod-lt}
 use Rattle.numbers.specs.Rounding.{ceilDiv, roundDiv}
 
 -- a number whose multiple of q is less than q above another's is at most the other
@@ -43,7 +43,7 @@ module _ (p q : ℕ) (hq : 0 < q) where
   pub ceil-le : (n : ℕ) → p ≤ n * q → ceilDiv p q ≤ n
   ceil-le n h = nearby (ceilDiv p q) n q (omega (arith, ceil-below))
 
-  pub ceil-covers : (n : ℕ) → ceilDiv p q ≤ n → p ≤ n * q
+  ceil-covers : (n : ℕ) → ceilDiv p q ≤ n → p ≤ n * q
   ceil-covers n h = le-trans ceil-above (mul-le-mul-right q h)
 
   pub round-le : (n : ℕ) → p ≤ n * q → roundDiv p q ≤ n
@@ -53,19 +53,9 @@ module _ (p q : ℕ) (hq : 0 < q) where
   pub ceil-le-self : ceilDiv p q ≤ p
   ceil-le-self = ceil-le p (omega (arith, mul-le-mul-left p hq))
 
-  -- rounded up, nothing but 0 is 0
-  pub ceil-pos : 0 < p → 0 < ceilDiv p q
-  ceil-pos h = pos-of-ne-zero (λ none. omega (arith, ceil-covers 0 (le-of-eq none)))
-
-  -- rounded down ≤ to the nearest ≤ up ≤ down and 1
-  pub floor-le-round : p / q ≤ roundDiv p q
-  floor-le-round = nearby (p / q) (roundDiv p q) q (omega (arith, div-mul-le-self p q, round-above))
-
+  -- to the nearest is at most up
   pub round-le-ceil : roundDiv p q ≤ ceilDiv p q
   round-le-ceil = round-le (ceilDiv p q) ceil-above
-
-  pub ceil-le-floor : ceilDiv p q ≤ p / q + 1
-  ceil-le-floor = ceil-le (p / q + 1) (omega (arith, lt-div-mul-add {a = p} hq))
 
 -- from the quotient d and the remainder r of p by q, as a program has them
 module _ (p q : ℕ) (hq : 0 < q) (d r : ℕ) (hd : d ≡ p / q) (hr : r ≡ p % q) where
@@ -93,27 +83,9 @@ module _ (p q : ℕ) (hq : 0 < q) (d r : ℕ) (hd : d ≡ p / q) (hr : r ≡ p %
       let parts : f * p ≡ f * d * q + f * r = omega (arith, ap (λ (n : ℕ). f * n) divided) in
       round-unique (f * p) q hq (f * d + roundDiv (f * r) q) (omega (arith, round-above (f * r) q hq)) (omega (arith, round-below (f * r) q hq))
 
-module _ (p p' q : ℕ) (hq : 0 < q) where
-  -- both grow with p
-  pub ceil-mono : p ≤ p' → ceilDiv p q ≤ ceilDiv p' q
-  ceil-mono h = ceil-le p q hq (ceilDiv p' q) (le-trans h (ceil-above p' q hq))
-
-  pub round-mono : p ≤ p' → roundDiv p q ≤ roundDiv p' q
-  round-mono h = nearby (roundDiv p q) (roundDiv p' q) q (omega (arith, round-below p q hq, round-above p' q hq))
-
-  -- a sum rounded up, and the sum of what is rounded up
-  pub ceil-add : ceilDiv (p + p') q ≤ ceilDiv p q + ceilDiv p' q
-  ceil-add = ceil-le (p + p') q hq (ceilDiv p q + ceilDiv p' q) (omega (arith, ceil-above p q hq, ceil-above p' q hq))
-
-  pub ceil-add-near : ceilDiv p q + ceilDiv p' q ≤ ceilDiv (p + p') q + 1
-  ceil-add-near =
-      nearby (ceilDiv p q + ceilDiv p' q) (ceilDiv (p + p') q + 1) q
-      (omega (arith, ceil-below p q hq, ceil-below p' q hq, ceil-above (p + p') q hq))
-
--- rounded up, a fraction falls as q grows
-pub ceil-anti : (p q q' : ℕ) → 0 < q → q ≤ q' → ceilDiv p q' ≤ ceilDiv p q
-ceil-anti p q q' hq h =
-    ceil-le p q' (omega arith) (ceilDiv p q) (le-trans (ceil-above p q hq) (mul-le-mul-left (ceilDiv p q) h))
+-- rounded up, a fraction grows with p
+pub ceil-mono : (p p′ q : ℕ) → 0 < q → p ≤ p′ → ceilDiv p q ≤ ceilDiv p′ q
+ceil-mono p p′ q hq h = ceil-le p q hq (ceilDiv p′ q) (le-trans h (ceil-above p′ q hq))
 
 -- rounding up in two steps is rounding up once
 pub ceil-ceil : (p a b : ℕ) → 0 < a → 0 < b → ceilDiv (ceilDiv p a) b ≡ ceilDiv p (a * b)
@@ -124,38 +96,3 @@ ceil-ceil p a b ha hb =
     le-antisymm
     (ceil-le (ceilDiv p a) b hb m (ceil-le p a ha (m * b) (omega (arith, ceil-above p (a * b) hab))))
     (ceil-le p (a * b) hab n (omega (arith, ceil-covers p a ha (n * b) (ceil-above (ceilDiv p a) b hb))))
-
--- a whole number needs no rounding
-module _ (n q : ℕ) (hq : 0 < q) where
-  pub ceil-whole : ceilDiv (n * q) q ≡ n
-  ceil-whole = sym (ceil-unique (n * q) q hq n (omega arith) (omega arith))
-
-  pub round-whole : roundDiv (n * q) q ≡ n
-  round-whole = sym (round-unique (n * q) q hq n (omega arith) (omega arith))
-
--- and 0 is 0, even where q is
-pub ceil-zero : (q : ℕ) → ceilDiv 0 q ≡ 0
-unfolding ceilDiv
-ceil-zero zero = refl
-ceil-zero (suc q) = div-eq-of-lt (omega arith)
-
-pub round-zero : (q : ℕ) → roundDiv 0 q ≡ 0
-unfolding roundDiv
-round-zero zero = refl
-round-zero (suc q) = div-eq-of-lt (omega arith)
-
--- a factor that p and q share
-module _ (k p q : ℕ) (hk : 0 < k) (hq : 0 < q) where
-  pub ceil-factor : ceilDiv (k * p) (k * q) ≡ ceilDiv p q
-  ceil-factor =
-      sym
-      (ceil-unique (k * p) (k * q) (mul-pos hk hq) (ceilDiv p q)
-      (omega (arith, mul-le-mul-left k (ceil-above p q hq)))
-      (omega (arith, mul-lt-mul-of-pos-left {k = k} (ceil-below p q hq) hk)))
-
-  pub round-factor : roundDiv (k * p) (k * q) ≡ roundDiv p q
-  round-factor =
-      sym
-      (round-unique (k * p) (k * q) (mul-pos hk hq) (roundDiv p q)
-      (omega (arith, mul-lt-mul-of-pos-left {k = k} (round-above p q hq) hk))
-      (omega (arith, mul-le-mul-left k (round-below p q hq))))

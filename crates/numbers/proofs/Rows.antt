@@ -7,7 +7,7 @@ use native.Mathlib.Omega.{arith}
 use native.Mathlib.Numerals.{add-one}
 use native.Mathlib.Nat.{mul-zero, mul-suc}
 use lib.ListN.{length, getD, take, drop, length-append, drop-of-length-le, List·getD-append}
-use lib.Seq.{drop-cons, drop-drop, drop-nil, take-suc, take-nil, take-at, drop-at, take-append-add, drop-append-add, getD-drop, length-take-le}
+use lib.Seq.{drop-cons, drop-drop, drop-nil, take-suc, take-at, drop-at, drop-append-add, getD-drop, length-take-le}
 
 -- over two lists in one, over a mapped list
 pub flatMap-append : {A B : Type 0} (f : A → List B) (xs ys : List A) → flatMap f (xs ++ ys) ≡ flatMap f xs ++ flatMap f ys
@@ -30,13 +30,7 @@ module _ {A B : Type 0} (w : ℕ) (f : A → List B) (wide : (x : A) → length 
   one-row : (x : A) (i : ℕ) → w * suc i ≡ length (f x) + w * i
   one-row x i = omega (arith, wide x)
 
-  pub rows-take : (xs : List A) (i : ℕ) → take (w * i) (flatMap f xs) ≡ flatMap f (take i xs)
-  unfolding flatMap
-  rows-take xs zero = rw mul-zero
-  rows-take [] (suc i) = take-nil (w * suc i)
-  rows-take (x ∷ xs) (suc i) = rw (one-row x i, take-append-add, rows-take xs i)
-
-  pub rows-drop : (xs : List A) (i : ℕ) → drop (w * i) (flatMap f xs) ≡ flatMap f (drop i xs)
+  rows-drop : (xs : List A) (i : ℕ) → drop (w * i) (flatMap f xs) ≡ flatMap f (drop i xs)
   unfolding flatMap
   rows-drop xs zero = rw mul-zero
   rows-drop [] (suc i) = drop-nil (w * suc i)

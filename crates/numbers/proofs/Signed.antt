@@ -1,16 +1,16 @@
 -- Signed arithmetic for `omega`: an integer z is z ⁺ less z ⁻, and every law is linear in these two natural numbers, with no side condition.
--- To prove an order or an equation of integers write `omega (arith, signed, ..)` with one fact for each operation in sight; the examples show it.
-use mathlib.Core.Path.{_≡_, refl, sym, ap, _∙_, subst}
+-- To prove an order or an equation of integers write `omega (arith, signed, ..)` with one fact for each operation in sight, as `⁺-mono` does.
+use mathlib.Core.Path.{_≡_, refl, sym, ap, subst}
 use mathlib.Core.Bool.{Bool, true, false, not, cond}
-use Prim.Native.Nat.{ℕ, zero, suc, _+_, _-_, _≤_, _<_, _^_, min, max}
+use Prim.Native.Nat.{ℕ, zero, suc, _+_, _-_, _≤_, _<_, _^_, min}
 use native.Mathlib.Omega.{arith}
-use lib.Dec.{T, ltb, ltb→lt, lt→ltb, leb→le, le→leb, nltb→le, nleb→lt}
+use lib.Dec.{T, ltb, ltb→lt, lt→ltb, leb→le, le→leb, nltb→le}
 use lib.IntN.{ℤ, pos, negsuc, negℤ, natAbs, subℕ, _+ℤ_, _-ℤ_}
-use lib.Signed.{_≤ℤ_, _<ℤ_, leZ, ltZ, nonNeg, mag, ltZ-yes, ltZ-no, leZ-yes, clashℤ, yes-nonNeg}
-use mir.Syntax.{Width, w64}
+use lib.Signed.{_≤ℤ_, _<ℤ_, leZ, ltZ, nonNeg, mag, ltZ-yes, ltZ-no, clashℤ, yes-nonNeg}
+use mir.Syntax.{Width}
 use mir.Val.{SFits, Fits, toZ, ofZ, hbits}
 use mir.ValLaws.{toZ-ofZ, pow-bits}
-use Rattle.numbers.specs.Signed.{_⁺, _⁻, maxℤ}
+use Rattle.numbers.specs.Signed.{_⁺, _⁻}
 
 -- one of the two is 0: listed where z ⁺ or z ⁻ is wanted by itself
 pub one-zero : (z : ℤ) → min (z ⁺) (z ⁻) ≡ 0
@@ -83,43 +83,12 @@ pub →eq : (a b : ℤ) → a ⁺ + b ⁻ ≡ b ⁺ + a ⁻ → a ≡ b
 -- what `omega` reads a signed hypothesis by, and a goal
 pub ruleset signed = (le→, →le, lt→, →lt, eq→, →eq)
 
--- a test `≤` that failed
-pub leZ-no : {a b : ℤ} → T (not (leZ a b)) → b <ℤ a
-leZ-no {a = pos a} {b = pos b} t = record { lt = lt→ltb b a (nleb→lt a b t) }
-leZ-no {a = pos a} {b = negsuc b} t = record { lt = tt }
-leZ-no {a = negsuc a} {b = pos b} t = absurd t
-leZ-no {a = negsuc a} {b = negsuc b} t = record { lt = lt→ltb a b (nleb→lt b a t) }
-
--- the greater of two
-pub max-is : (a b : ℤ) → maxℤ a b ⁺ + (a ⁻ + b ⁻) ≡ maxℤ a b ⁻ + max (a ⁺ + b ⁻) (b ⁺ + a ⁻)
-unfolding maxℤ
-max-is a b = by (leZ a b) (λ t. leZ-yes t) (λ t. leZ-no t)
-  where
-    by : (t : Bool) → (T t → a ≤ℤ b) → (T (not t) → b <ℤ a) → cond t b a ⁺ + (a ⁻ + b ⁻) ≡ cond t b a ⁻ + max (a ⁺ + b ⁻) (b ⁺ + a ⁻)
-    by true f g = let h = f tt in omega (arith, signed)
-    by false f g = let h = g tt in omega (arith, signed)
-
-pub maxℤ-comm : (a b : ℤ) → maxℤ a b ≡ maxℤ b a
-maxℤ-comm a b = omega (arith, signed, max-is a b, max-is b a)
-
-pub maxℤ-assoc : (a b c : ℤ) → maxℤ (maxℤ a b) c ≡ maxℤ a (maxℤ b c)
-maxℤ-assoc a b c = omega (arith, signed, max-is a b, max-is (maxℤ a b) c, max-is b c, max-is a (maxℤ b c))
-
-pub maxℤ-zero : (z : ℤ) → maxℤ (pos 0) z ≡ pos (z ⁺)
-maxℤ-zero z = omega (arith, signed, max-is (pos 0) z, one-zero z)
-
 -- the positive part: it grows with the number, and that of a sum is at most the sum of the parts
-pub ⁺-is : {z : ℤ} → pos 0 ≤ℤ z → pos (z ⁺) ≡ z
-⁺-is {z} h = omega (arith, signed, one-zero z)
-
 pub ⁺-mono : {a b : ℤ} → a ≤ℤ b → a ⁺ ≤ b ⁺
 ⁺-mono {a} {b} h = omega (arith, signed, one-zero a, one-zero b)
 
 pub ⁺-add : (a b : ℤ) → (a +ℤ b) ⁺ ≤ a ⁺ + b ⁺
 ⁺-add a b = omega (arith, add a b, one-zero (a +ℤ b))
-
-pub ⁺-max : (a b : ℤ) → maxℤ a b ⁺ ≡ max (a ⁺) (b ⁺)
-⁺-max a b = omega (arith, max-is a b, one-zero a, one-zero b, one-zero (maxℤ a b))
 
 -- the absolute value
 pub abs-is : (z : ℤ) → natAbs z ≡ z ⁺ + z ⁻
@@ -135,9 +104,6 @@ pub ⁺-sub : (a b : ℤ) → (a -ℤ b) ⁺ ≤ natAbs a + natAbs b
 pub abs-add : (a b : ℤ) → natAbs (a +ℤ b) ≤ natAbs a + natAbs b
 abs-add a b = omega (arith, add a b, one-zero (a +ℤ b), abs-is a, abs-is b, abs-is (a +ℤ b))
 
-pub abs-max : (a b : ℤ) → natAbs (maxℤ a b) ≤ max (natAbs a) (natAbs b)
-abs-max a b = omega (arith, max-is a b, one-zero (maxℤ a b), abs-is a, abs-is b, abs-is (maxℤ a b))
-
 -- the range of a signed number of any width
 pub →sfits : {w : Width} (z : ℤ) → (z ⁺ < z ⁻ + 2 ^ hbits w) × (z ⁻ ≤ z ⁺ + 2 ^ hbits w) → SFits w z
 →sfits (pos n) h = record { sfits = omega arith }
@@ -146,7 +112,7 @@ pub →sfits : {w : Width} (z : ℤ) → (z ⁺ < z ⁻ + 2 ^ hbits w) × (z ⁻
 pub fits-abs : {w : Width} (z : ℤ) → natAbs z < 2 ^ hbits w → SFits w z
 fits-abs z h = →sfits z (omega (arith, abs-is z))
 
-pub sfits→ : {w : Width} {z : ℤ} → SFits w z → z ⁺ + z ⁻ ≤ 2 ^ hbits w
+sfits→ : {w : Width} {z : ℤ} → SFits w z → z ⁺ + z ⁻ ≤ 2 ^ hbits w
 sfits→ {z = pos n} h = omega (arith, h .sfits)
 sfits→ {z = negsuc n} h = omega (arith, h .sfits)
 
@@ -168,25 +134,13 @@ back {w} {z} f = toZ-ofZ w z f
 pub back-ok : (w : Width) (z : ℤ) → mag z < 2 ^ hbits w → toZ w (ofZ w z) ≡ z
 back-ok w z h = toZ-ofZ w z (record { sfits = h })
 
--- a test on two signed locals, held and failed; `==` compares their bits
+-- a test on two signed locals, held and failed
 module _ {w : Width} {a b : ℤ} (f : SFits w a) (g : SFits w b) where
   pub lt-held : ltZ (toZ w (ofZ w a)) (toZ w (ofZ w b)) ≡ true → a <ℤ b
   lt-held e = ltZ-yes (subst T (sym (simp (back f, back g) at e)) tt)
 
   pub lt-failed : ltZ (toZ w (ofZ w a)) (toZ w (ofZ w b)) ≡ false → b ≤ℤ a
   lt-failed e = ltZ-no (subst (λ (t : Bool). T (not t)) (sym (simp (back f, back g) at e)) tt)
-
-  pub le-held : leZ (toZ w (ofZ w a)) (toZ w (ofZ w b)) ≡ true → a ≤ℤ b
-  le-held e = leZ-yes (subst T (sym (simp (back f, back g) at e)) tt)
-
-  pub le-failed : leZ (toZ w (ofZ w a)) (toZ w (ofZ w b)) ≡ false → b <ℤ a
-  le-failed e = leZ-no (subst (λ (t : Bool). T (not t)) (sym (simp (back f, back g) at e)) tt)
-
-  pub eq-held : ofZ w a ≡ ofZ w b → a ≡ b
-  eq-held e = sym (back f) ∙ ap (toZ w) e ∙ back g
-
-pub eq-failed : (w : Width) {a b : ℤ} → (ofZ w a ≡ ofZ w b → ⊥) → a ≡ b → ⊥
-eq-failed w n e = n (ap (ofZ w) e)
 
 -- a test's value from the fact, for a definition that computes a test
 held : (t : Bool) → T t → t ≡ true
@@ -197,27 +151,8 @@ failed : (t : Bool) → (T t → ⊥) → t ≡ false
 failed true h = absurd (h tt)
 failed false h = refl
 
-pub is-le : {a b : ℤ} → a ≤ℤ b → leZ a b ≡ true
-is-le {a} {b} h = held (leZ a b) (h .le)
-
-pub not-le : {a b : ℤ} → b <ℤ a → leZ a b ≡ false
-not-le {a} {b} h = failed (leZ a b) (λ t. clashℤ h (leZ-yes t))
-
 pub is-lt : {a b : ℤ} → a <ℤ b → ltZ a b ≡ true
 is-lt {a} {b} h = held (ltZ a b) (h .lt)
 
 pub not-lt : {a b : ℤ} → b ≤ℤ a → ltZ a b ≡ false
 not-lt {a} {b} h = failed (ltZ a b) (λ t. clashℤ (ltZ-yes t) h)
-
--- examples
-trans : (a b c : ℤ) → a ≤ℤ b → b <ℤ c → a <ℤ c
-trans a b c p q = omega (arith, signed)
-
-mono : (a b c : ℤ) → a ≤ℤ b → (a +ℤ c) ≤ℤ (b +ℤ c)
-mono a b c p = omega (arith, signed, add a c, add b c)
-
-moved : (a b c : ℤ) → (a +ℤ b) +ℤ (c -ℤ a) ≡ b +ℤ c
-moved a b c = omega (arith, signed, add a b, sub c a, add (a +ℤ b) (c -ℤ a), add b c)
-
-in-range : (a b : ℤ) → natAbs a ≤ 1000 → pos 0 ≤ℤ b → b ≤ℤ pos 1000 → SFits w64 (a -ℤ b)
-in-range a b p q r = →sfits _ (omega (arith, signed, sub a b, abs-is a))

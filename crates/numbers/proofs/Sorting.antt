@@ -2,12 +2,12 @@
 -- by one number more. Two insertions may be exchanged, and the rest follows.
 use mathlib.Core.Path.{_≡_, refl, sym, ap, ap₂, _∙_}
 use mathlib.Core.Bool.{Bool, true, false, cond}
-use mathlib.Core.List.{List, [], _∷_, _++_, map, append-nil, List·Memᴰ·head as here, List·Memᴰ·tail as there}
-use mathlib.Core.List.{List·Permᴰ, List·Permᴰ·nil, List·Permᴰ·cons, List·Permᴰ·swap, List·Permᴰ·trans, Permᴰ·refl, Permᴰ·middle}
+use mathlib.Core.List.{List, [], _∷_, map, List·Memᴰ·head as here, List·Memᴰ·tail as there}
+use mathlib.Core.List.{List·Permᴰ, List·Permᴰ·nil, List·Permᴰ·cons, List·Permᴰ·swap, List·Permᴰ·trans, Permᴰ·refl}
 use Prim.Native.Nat.{ℕ, zero, suc, _+_, _≤_, _<_, max, min}
 use native.Mathlib.Omega.{arith}
 use lib.Dec.{leb}
-use lib.ListN.{length, getD, take}
+use lib.ListN.{getD, take}
 use borrow.Author.Tests.{leb-true, leb-false, le-leb, lt-leb}
 use Rattle.numbers.specs.Lists.{insert, descending}
 use Rattle.numbers.specs.Sums.{Σ, greatest}
@@ -61,13 +61,7 @@ insert-swap x y l = by (leb y x) refl
     by true q = insert-swap-le x y l (leb-true y x q)
     by false q = sym (insert-swap-le y x l (omega (arith, leb-false y x q)))
 
--- a permutation changes neither the length nor the sorted list, and the sorted list is one
-pub perm-length : {A : Type 0} {xs ys : List A} → List·Permᴰ xs ys → length xs ≡ length ys
-perm-length List·Permᴰ·nil = refl
-perm-length (List·Permᴰ·cons e p) = ap suc (perm-length p)
-perm-length (List·Permᴰ·swap e q) = refl
-perm-length (List·Permᴰ·trans p q) = perm-length p ∙ perm-length q
-
+-- a permutation does not change the sorted list, and the sorted list is one
 pub descending-perm : {xs ys : List ℕ} → List·Permᴰ xs ys → descending xs ≡ descending ys
 unfolding descending
 descending-perm List·Permᴰ·nil = refl
@@ -117,7 +111,7 @@ unfolding descending
 next [] i = omega arith
 next (x ∷ xs) i = insert-falls x (descending xs) (λ j. next xs j) i
 
-pub descending-falls : (xs : List ℕ) (i j : ℕ) → i ≤ j → getD (descending xs) j 0 ≤ getD (descending xs) i 0
+descending-falls : (xs : List ℕ) (i j : ℕ) → i ≤ j → getD (descending xs) j 0 ≤ getD (descending xs) i 0
 descending-falls xs i j h = by-steps (λ k. getD (descending xs) k 0 ≤ getD (descending xs) i 0) i j h (omega arith) (λ k l m f. omega (arith, next xs k))
 
 -- the greatest and the next after it, one number more
@@ -148,10 +142,6 @@ two-largest x xs =
     let l = descending xs in
     let f : getD l 1 0 ≤ getD l 0 0 = descending-falls xs 0 1 (omega arith) in
     omega (arith, front (insert x l), front l, head-is xs, insert-head x l, insert-next x l f)
-
--- the same with one number more at the end
-pub two-largest-snoc : (xs : List ℕ) (x : ℕ) → Σ (take 2 (descending (xs ++ (x ∷ [])))) (λ y. y) ≡ max (x + greatest xs (λ y. y)) (Σ (take 2 (descending xs)) (λ y. y))
-two-largest-snoc xs x = rw (descending-perm (Permᴰ·middle x xs []), append-nil) (two-largest x xs)
 
 -- it is at least the greatest, and grows with the numbers
 pub greatest-two : (xs : List ℕ) → greatest xs (λ x. x) ≤ Σ (take 2 (descending xs)) (λ x. x)

@@ -6,17 +6,17 @@ use mathlib.Core.List.{List, [], _∷_, _++_, map, List·Memᴰ·head as here, L
 use Prim.Native.Nat.{ℕ, zero, suc, _+_, _*_, _≤_, _<_, max}
 use native.Mathlib.Omega.{arith}
 use native.Mathlib.Numerals.{add-one}
-use lib.Dec.{leb, eqb}
-use lib.IntN.{ℤ, pos, natAbs, _+ℤ_, +ℤ-idl, +ℤ-idr, +ℤ-assoc}
+use lib.Dec.{eqb}
+use lib.IntN.{ℤ, natAbs, _+ℤ_, +ℤ-idl, +ℤ-idr, +ℤ-assoc}
 use lib.Signed.{_≤ℤ_}
 use lib.ListN.{length, getD, take, drop, take-append-drop}
 use lib.Seq.{take-suc}
-use borrow.Author.Tests.{leb-true, leb-false, eqb-true, ne-eqb}
+use borrow.Author.Tests.{eqb-true, ne-eqb}
 use Rattle.numbers.specs.Signed.{_⁺}
 use Rattle.numbers.specs.Lists.{range, keep}
 use Rattle.numbers.specs.Sums.{Σ, Σℤ, greatest}
 use Rattle.numbers.proofs.Signed.{signed, add, ⁺-add, abs-add}
-use Rattle.numbers.proofs.Lists.{_∈_, mem-range, mem-keep}
+use Rattle.numbers.proofs.Lists.{_∈_, mem-range}
 
 -- ---- sums
 
@@ -47,7 +47,7 @@ unfolding Σ
 Σ-eq [] f g h = refl
 Σ-eq (x ∷ xs) f g h = ap₂ _+_ (h x (here refl)) (Σ-eq xs f g (λ y m. h y (there m)))
 
-pub Σ-zero : {A : Type 0} (xs : List A) (f : A → ℕ) → ((x : A) → x ∈ xs → f x ≡ 0) → Σ xs f ≡ 0
+Σ-zero : {A : Type 0} (xs : List A) (f : A → ℕ) → ((x : A) → x ∈ xs → f x ≡ 0) → Σ xs f ≡ 0
 Σ-zero xs f h = omega (arith, Σ-eq xs f (λ x. 0) h, Σ-const xs 0)
 
 pub Σ-bound : {A : Type 0} (xs : List A) (f : A → ℕ) (c : ℕ) → ((x : A) → x ∈ xs → f x ≤ c) → Σ xs f ≤ length xs * c
@@ -63,7 +63,7 @@ unfolding Σ
 
 -- over two lists in one, over one element more, over a mapped list. `Σ-more` is a step of a loop over a list, and `Σ-snoc` with `upto-more`
 -- in front is one of a loop over numbers
-pub Σ-append : {A : Type 0} (xs ys : List A) (f : A → ℕ) → Σ (xs ++ ys) f ≡ Σ xs f + Σ ys f
+Σ-append : {A : Type 0} (xs ys : List A) (f : A → ℕ) → Σ (xs ++ ys) f ≡ Σ xs f + Σ ys f
 unfolding Σ
 Σ-append [] ys f = omega arith
 Σ-append (x ∷ xs) ys f = omega (arith, Σ-append xs ys f)
@@ -94,7 +94,7 @@ unfolding Σ
 Σ-perm (List·Permᴰ·trans p q) f = Σ-perm p f ∙ Σ-perm q f
 
 -- over the elements that pass a test and those that fail it: together the whole, so that over a part it is no greater
-pub Σ-split : {A : Type 0} (p : A → Bool) (xs : List A) (f : A → ℕ) → Σ (keep p xs) f + Σ (keep (λ x. not (p x)) xs) f ≡ Σ xs f
+Σ-split : {A : Type 0} (p : A → Bool) (xs : List A) (f : A → ℕ) → Σ (keep p xs) f + Σ (keep (λ x. not (p x)) xs) f ≡ Σ xs f
 unfolding Σ keep
 Σ-split p [] f = refl
 Σ-split p (x ∷ xs) f = by (p x) (Σ-split p xs f)
@@ -111,7 +111,7 @@ pub Σ-take-le : {A : Type 0} (n : ℕ) (xs : List A) (f : A → ℕ) → Σ (ta
 Σ-take-le n xs f = omega (arith, ap (λ (l : List _). Σ l f) (take-append-drop n xs), Σ-append (take n xs) (drop n xs) f)
 
 -- what fails a test adds 0; and over those that pass one of two tests the sum is at most that for each
-pub Σ-keep : {A : Type 0} (p : A → Bool) (xs : List A) (f : A → ℕ) → Σ (keep p xs) f ≡ Σ xs (λ x. cond (p x) (f x) 0)
+Σ-keep : {A : Type 0} (p : A → Bool) (xs : List A) (f : A → ℕ) → Σ (keep p xs) f ≡ Σ xs (λ x. cond (p x) (f x) 0)
 unfolding Σ keep
 Σ-keep p [] f = refl
 Σ-keep p (x ∷ xs) f = by (p x) (Σ-keep p xs f)
@@ -144,15 +144,7 @@ pub Σ-classes : {A : Type 0} (g : A → ℕ) (a n : ℕ) (xs : List A) (f : A �
 
 -- ---- sums of signed numbers
 
--- of two figures; element by element: growing, equal, not negative, zero
-mid : (a b c d : ℤ) → (a +ℤ b) +ℤ (c +ℤ d) ≡ (a +ℤ c) +ℤ (b +ℤ d)
-mid a b c d = omega (arith, signed, add a b, add c d, add a c, add b d, add (a +ℤ b) (c +ℤ d), add (a +ℤ c) (b +ℤ d))
-
-pub Σℤ-add : {A : Type 0} (xs : List A) (f g : A → ℤ) → Σℤ xs (λ x. f x +ℤ g x) ≡ Σℤ xs f +ℤ Σℤ xs g
-unfolding Σℤ
-Σℤ-add [] f g = refl
-Σℤ-add (x ∷ xs) f g = rw (Σℤ-add xs f g) (mid (f x) (g x) (Σℤ xs f) (Σℤ xs g))
-
+-- it grows with each figure
 pub Σℤ-mono : {A : Type 0} (xs : List A) (f g : A → ℤ) → ((x : A) → x ∈ xs → f x ≤ℤ g x) → Σℤ xs f ≤ℤ Σℤ xs g
 unfolding Σℤ
 Σℤ-mono [] f g h = omega (arith, signed)
@@ -161,21 +153,8 @@ unfolding Σℤ
     let b = Σℤ-mono xs f g (λ y m. h y (there m)) in
     omega (arith, signed, add (f x) (Σℤ xs f), add (g x) (Σℤ xs g))
 
-pub Σℤ-eq : {A : Type 0} (xs : List A) (f g : A → ℤ) → ((x : A) → x ∈ xs → f x ≡ g x) → Σℤ xs f ≡ Σℤ xs g
-unfolding Σℤ
-Σℤ-eq [] f g h = refl
-Σℤ-eq (x ∷ xs) f g h = ap₂ _+ℤ_ (h x (here refl)) (Σℤ-eq xs f g (λ y m. h y (there m)))
-
-pub Σℤ-pos : {A : Type 0} (xs : List A) (f : A → ℕ) → Σℤ xs (λ x. pos (f x)) ≡ pos (Σ xs f)
-unfolding Σℤ Σ
-Σℤ-pos [] f = refl
-Σℤ-pos (x ∷ xs) f = ap (λ (z : ℤ). pos (f x) +ℤ z) (Σℤ-pos xs f)
-
-pub Σℤ-zero : {A : Type 0} (xs : List A) (f : A → ℤ) → ((x : A) → x ∈ xs → f x ≡ pos 0) → Σℤ xs f ≡ pos 0
-Σℤ-zero xs f h = Σℤ-eq xs f (λ x. pos 0) h ∙ Σℤ-pos xs (λ x. 0) ∙ ap pos (Σ-zero xs (λ x. 0) (λ x m. refl))
-
--- over two lists in one, over one element more, over a mapped list
-pub Σℤ-append : {A : Type 0} (xs ys : List A) (f : A → ℤ) → Σℤ (xs ++ ys) f ≡ Σℤ xs f +ℤ Σℤ ys f
+-- over two lists in one, over one element more
+Σℤ-append : {A : Type 0} (xs ys : List A) (f : A → ℤ) → Σℤ (xs ++ ys) f ≡ Σℤ xs f +ℤ Σℤ ys f
 unfolding Σℤ
 Σℤ-append [] ys f = sym (+ℤ-idl (Σℤ ys f))
 Σℤ-append (x ∷ xs) ys f = rw (Σℤ-append xs ys f) (sym (+ℤ-assoc (f x) (Σℤ xs f) (Σℤ ys f)))
@@ -183,32 +162,6 @@ unfolding Σℤ
 pub Σℤ-snoc : {A : Type 0} (xs : List A) (x : A) (f : A → ℤ) → Σℤ (xs ++ (x ∷ [])) f ≡ Σℤ xs f +ℤ f x
 unfolding Σℤ
 Σℤ-snoc xs x f = Σℤ-append xs (x ∷ []) f ∙ ap (λ (z : ℤ). Σℤ xs f +ℤ z) (+ℤ-idr (f x))
-
-pub Σℤ-map : {A B : Type 0} (g : A → B) (xs : List A) (f : B → ℤ) → Σℤ (map g xs) f ≡ Σℤ xs (λ x. f (g x))
-unfolding Σℤ
-Σℤ-map g [] f = refl
-Σℤ-map g (x ∷ xs) f = ap (λ (z : ℤ). f (g x) +ℤ z) (Σℤ-map g xs f)
-
--- two sums may be exchanged, and two parts make the whole
-pub Σℤ-swap : {A B : Type 0} (xs : List A) (ys : List B) (f : A → B → ℤ) → Σℤ xs (λ x. Σℤ ys (f x)) ≡ Σℤ ys (λ y. Σℤ xs (λ x. f x y))
-unfolding Σℤ
-Σℤ-swap [] ys f = sym (Σℤ-zero ys (λ y. pos 0) (λ y m. refl))
-Σℤ-swap (x ∷ xs) ys f = rw (Σℤ-swap xs ys f) (sym (Σℤ-add ys (f x) (λ y. Σℤ xs (λ x′. f x′ y))))
-
-pub Σℤ-split : {A : Type 0} (p : A → Bool) (xs : List A) (f : A → ℤ) → Σℤ (keep p xs) f +ℤ Σℤ (keep (λ x. not (p x)) xs) f ≡ Σℤ xs f
-unfolding Σℤ keep
-Σℤ-split p [] f = refl
-Σℤ-split p (x ∷ xs) f = by (p x) ∙ ap (λ (z : ℤ). f x +ℤ z) (Σℤ-split p xs f)
-  where
-    a : ℤ
-    a = Σℤ (keep p xs) f
-
-    b : ℤ
-    b = Σℤ (keep (λ y. not (p y)) xs) f
-
-    by : (t : Bool) → Σℤ (cond t (x ∷ keep p xs) (keep p xs)) f +ℤ Σℤ (cond (not t) (x ∷ keep (λ y. not (p y)) xs) (keep (λ y. not (p y)) xs)) f ≡ f x +ℤ (a +ℤ b)
-    by true = +ℤ-assoc (f x) a b
-    by false = omega (arith, signed, add a (f x +ℤ b), add (f x) b, add (f x) (a +ℤ b), add a b)
 
 -- the positive part and the absolute value of a sum are at most those of its parts
 pub Σℤ-⁺ : {A : Type 0} (xs : List A) (f : A → ℤ) → Σℤ xs f ⁺ ≤ Σ xs (λ x. f x ⁺)
@@ -223,7 +176,7 @@ unfolding Σℤ Σ
 
 -- ---- the greatest
 
--- it is the least number that no figure is above, and where it is above 0 some element has it
+-- it is the least number that no figure is above
 pub greatest-le : {A : Type 0} (xs : List A) (f : A → ℕ) (c : ℕ) → ((x : A) → x ∈ xs → f x ≤ c) → greatest xs f ≤ c
 unfolding greatest
 greatest-le [] f c h = omega arith
@@ -234,19 +187,7 @@ unfolding greatest
 greatest-elem f (here e) = omega (arith, ap f e)
 greatest-elem f (there m) = omega (arith, greatest-elem f m)
 
-pub greatest-attained : {A : Type 0} (xs : List A) (f : A → ℕ) → 0 < greatest xs f → (x : A) × (x ∈ xs) × (f x ≡ greatest xs f)
-unfolding greatest
-greatest-attained [] f h = let no-way : ⊥ = omega arith in absurd no-way
-greatest-attained {A} (x ∷ xs) f h = by (leb (greatest xs f) (f x)) refl (greatest-attained xs f)
-  where
-    by : (t : Bool) → leb (greatest xs f) (f x) ≡ t → (0 < greatest xs f → (y : A) × (y ∈ xs) × (f y ≡ greatest xs f)) → (y : A) × (y ∈ (x ∷ xs)) × (f y ≡ max (f x) (greatest xs f))
-    by true q k = (x, here refl, omega (arith, leb-true (greatest xs f) (f x) q))
-    by false q k =
-        let l = leb-false (greatest xs f) (f x) q in
-        let (y, m, e) = k (omega arith) in
-        (y, there m, omega arith)
-
--- element by element: growing, equal, the greater of two figures
+-- element by element: growing, equal
 pub greatest-mono : {A : Type 0} (xs : List A) (f g : A → ℕ) → ((x : A) → x ∈ xs → f x ≤ g x) → greatest xs f ≤ greatest xs g
 greatest-mono xs f g h = greatest-le xs f (greatest xs g) (λ x m. omega (arith, h x m, greatest-elem g m))
 
@@ -254,11 +195,6 @@ pub greatest-eq : {A : Type 0} (xs : List A) (f g : A → ℕ) → ((x : A) → 
 unfolding greatest
 greatest-eq [] f g h = refl
 greatest-eq (x ∷ xs) f g h = ap₂ max (h x (here refl)) (greatest-eq xs f g (λ y m. h y (there m)))
-
-pub greatest-max : {A : Type 0} (xs : List A) (f g : A → ℕ) → greatest xs (λ x. max (f x) (g x)) ≡ max (greatest xs f) (greatest xs g)
-unfolding greatest
-greatest-max [] f g = refl
-greatest-max (x ∷ xs) f g = omega (arith, greatest-max xs f g)
 
 -- over two lists in one, over one element more, over a mapped list. `greatest-more` is a step of a loop, as `Σ-more` is
 pub greatest-append : {A : Type 0} (xs ys : List A) (f : A → ℕ) → greatest (xs ++ ys) f ≡ max (greatest xs f) (greatest ys f)
@@ -277,16 +213,3 @@ pub greatest-map : {A B : Type 0} (g : A → B) (xs : List A) (f : B → ℕ) �
 unfolding greatest
 greatest-map g [] f = refl
 greatest-map g (x ∷ xs) f = ap (λ (n : ℕ). max (f (g x)) n) (greatest-map g xs f)
-
--- two of them may be exchanged
-pub greatest-swap : {A B : Type 0} (xs : List A) (ys : List B) (f : A → B → ℕ) → greatest xs (λ x. greatest ys (f x)) ≡ greatest ys (λ y. greatest xs (λ x. f x y))
-unfolding greatest
-greatest-swap [] ys f = omega (arith, greatest-le ys (λ y. 0) 0 (λ y m. omega arith))
-greatest-swap (x ∷ xs) ys f = omega (arith, greatest-swap xs ys f, greatest-max ys (f x) (λ y. greatest xs (λ x′. f x′ y)))
-
--- it is at most the sum, and not greater over fewer elements
-pub greatest-Σ : {A : Type 0} (xs : List A) (f : A → ℕ) → greatest xs f ≤ Σ xs f
-greatest-Σ xs f = greatest-le xs f (Σ xs f) (λ x m. Σ-elem f m)
-
-pub greatest-keep-le : {A : Type 0} (p : A → Bool) (xs : List A) (f : A → ℕ) → greatest (keep p xs) f ≤ greatest xs f
-greatest-keep-le p xs f = greatest-le (keep p xs) f (greatest xs f) (λ x m. greatest-elem f (mem-keep p xs m .0))

@@ -16,7 +16,7 @@ use Rattle.numbers.proofs.Lists.{mem-range, map-eq, table-at, own-table, part-l
 use Rattle.methodology.specs.declared.Heading.{Heading}
 use Rattle.methodology.specs.declared.Refusal.the-variants.{Row}
 use Rattle.methodology.specs.Account.{DayInput, nobody}
-use Rattle.methodology.specs.Refusals.{row_when_else_, isOpen, outside, badLengths, dayRefusal}
+use Rattle.methodology.specs.Refusals.{row_when_else_, isOpen, countOutside, badLengths, dayRefusal}
 use Rattle.headings.specs.Columns.{column, columns}
 use Rattle.headings.proofs.Filled.{column-length, columns-length}
 use Rattle.validation.specs.Slices.{headings, plainDay}
@@ -51,7 +51,7 @@ past : (xs ys : List ℕ) (n i : ℕ) → length xs ≡ n → getD (xs ++ ys) (n
 past xs ys n i e =
     ap (λ (m : ℕ). getD (xs ++ ys) (m + i) 0) (sym e) ∙ sym (getD-drop (length xs) (xs ++ ys) i 0) ∙ ap (λ (l : List ℕ). getD l i 0) (drop-append-seam xs ys)
 
-too-many : (count : ℕ) → 256 < count → outside 1 256 count ≡ true
+too-many : (count : ℕ) → 256 < count → countOutside count ≡ true
 too-many count h = rw (le-ltb count 1 (omega arith), lt-ltb 256 count h)
 
 twice-256 : (i : ℕ) → 512 + i ≡ 256 + (256 + i)
@@ -106,7 +106,7 @@ module _ (hs : List Heading) where
       ∙ sym (own-table hs nobody)
 
 -- a day with no accounts, or more than 256, is refused by its length at the latest
-uncounted : (p : Period) (d : DayInput) (room : ℕ) → outside 1 256 (length (d .headings)) ≡ true → dayRow p d room ≡ Row (cond (isOpen (statusOf p)) 4 2)
+uncounted : (p : Period) (d : DayInput) (room : ℕ) → countOutside (length (d .headings)) ≡ true → dayRow p d room ≡ Row (cond (isOpen (statusOf p)) 4 2)
 unfolding dayRow dayRefusal badLengths row_when_else_
 uncounted p d room e = by (isOpen (statusOf p)) refl
   where
@@ -126,8 +126,8 @@ pub columns-meet : (p : Period) (number count n : ℕ) (all : List ℕ) (npvs : 
     → (hs : List Heading) → length hs ≡ count → all ≡ columns hs → DayMeets p (dayBrought number hs npvs margins extras) out r after
 columns-meet p number count n all npvs margins extras out r after e m hs long same = by (ltb 256 count) refl e
   where
-    none-left : outside 1 256 (length (cutDay number 0 all npvs margins extras .headings)) ≡ true
-    none-left = ap (outside 1 256) (headings-length (take 0 all) (take 0 (drop 256 all)) (take 0 (drop 512 all)) ∙ length-take-le 0 all (omega arith))
+    none-left : countOutside (length (cutDay number 0 all npvs margins extras .headings)) ≡ true
+    none-left = ap countOutside (headings-length (take 0 all) (take 0 (drop 256 all)) (take 0 (drop 512 all)) ∙ length-take-le 0 all (omega arith))
 
     by : (b : Bool) → ltb 256 count ≡ b → n ≡ cond b 0 count → DayMeets p (dayBrought number hs npvs margins extras) out r after
     by true t z =

@@ -11,10 +11,10 @@ use Rattle.numbers.proofs.Lists.{first-le}
 use Rattle.methodology.specs.declared.Refusal.the-variants.{Clear, Row, RowAt}
 use Rattle.methodology.specs.Account.{DayInput, nobody}
 use Rattle.methodology.specs.Day.{total}
-use Rattle.methodology.specs.Refusals.{row_when_else_, row_at_when_else_, isOpen, outside, badLengths, badDayNumber, firstBadHeading, lastMissing, badAmount, dayRefusal}
+use Rattle.methodology.specs.Refusals.{row_when_else_, row_at_when_else_, isOpen, countOutside, badLengths, badDayNumber, firstBadHeading, lastMissing, badAmount, dayRefusal}
 use Rattle.validation.specs.Slices.{Lent}
 use Rattle.validation.proofs.Headings.{headings-length, bad-heading-le}
-use Rattle.validation.proofs.Day.{sized, accounts-lent, accounts-length}
+use Rattle.validation.proofs.Day.{lengths-leave, sized, accounts-lent, accounts-length}
 use Rattle.period.specs.declared.Period.{Period}
 use Rattle.period.specs.Plain.{PlainDay, dayOf}
 use Rattle.period.specs.Calls.{held, statusOf, accountsBrought, dayRow}
@@ -25,14 +25,14 @@ module _ (p : Period) (c : PlainDay) (room : ℕ) where
   -- row 4 by the lengths alone
   pub lengths-are :
       badLengths (held p) (dayOf c) room
-      ≡ (outside 1 256 (length (c .members)) || not (eqb (length (c .npvs)) (length (c .members) * (p .k + 1))) || not (eqb (length (c .margins)) (length (c .members))) || not (eqb (length (c .extras)) (length (c .members))) || not (eqb room (5 * p .n)))
+      ≡ (countOutside (length (c .members)) || not (eqb (length (c .npvs)) (length (c .members) * (p .k + 1))) || not (eqb (length (c .margins)) (length (c .members))) || not (eqb (length (c .extras)) (length (c .members))) || not (eqb room (5 * p .n)))
   unfolding badLengths
   lengths-are = rw (headings-length (c .members) (c .numbers) (c .kinds))
 
   -- and then the accounts are those that the slices hold
   pub lent : length (c .kinds) ≡ length (c .members) → badLengths (held p) (dayOf c) room ≡ false → Lent (p .k) (c .kinds) (c .npvs) (c .margins) (c .extras) (accountsBrought p (dayOf c))
   lent b e4 =
-      let z = sized (held p) (dayOf c) room e4 in
+      let z = sized (held p) (dayOf c) (lengths-leave (held p) (dayOf c) room e4 .0) in
       let n = headings-length (c .members) (c .numbers) (c .kinds) in
       accounts-lent (p .k) (c .number) (c .members) (c .numbers) (c .kinds) (c .npvs) (c .margins) (c .extras) b (rw n at (z .npvs-long)) (z .margins-long ∙ n) (z .extras-long ∙ n)
 

@@ -1,4 +1,3 @@
-mod Openings
 pub mod Replies
 pub mod Ranges
 mod DayRows

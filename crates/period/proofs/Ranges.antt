@@ -1,4 +1,4 @@
--- What a period in range has in its fields, and a share's bound.
+-- What a period in range has in its fields.
 use mathlib.Core.Path.{_≡_}
 use mathlib.Core.Bool.{Bool, true, false, not, cond}
 use mathlib.Core.List.{List}
@@ -8,20 +8,15 @@ use lib.Dec.{leb, ltb}
 use lib.ListN.{getD}
 use borrow.Author.Tests.{leb-true, ltb-false, not-true}
 use Rattle.numbers.specs.Lists.{any}
-use Rattle.numbers.specs.Rounding.{ceilDiv}
 use Rattle.numbers.proofs.Tests.{both}
 use Rattle.numbers.proofs.Lists.{mem-at, at-any, any-false}
 use Rattle.methodology.specs.declared.Status.{Status}
 use Rattle.methodology.specs.declared.Status.the-variants.{Closed}
 use Rattle.methodology.specs.Day.{scale}
 use Rattle.methodology.specs.Refusals.{isOpen, badOpening}
-use Rattle.quotient.specs.Ranges.{Loss, greatestTotal}
-use Rattle.quotient.proofs.Bounds.{share-le}
+use Rattle.quotient.specs.Ranges.{greatestTotal}
 use Rattle.period.specs.declared.Period.{Period}
 use Rattle.period.specs.Calls.{held, inRange, statusOf}
-
-pub share-small : {e t : ℕ} → Loss e t → ceilDiv (e * scale) t ≤ scale
-share-small {e} {t} l = share-le scale e t (l .positive) (l .part)
 
 pub record Ranged (p : Period) : Type 0 where
   pub month : p .last ≤ 31

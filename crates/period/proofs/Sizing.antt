@@ -2,7 +2,7 @@
 use mathlib.Core.Path.{_≡_, refl, ap, _∙_}
 use mathlib.Core.Bool.{Bool, true, false, cond}
 use mathlib.Core.List.{List, map, flatMap}
-use Prim.Native.Nat.{ℕ, _+_, _*_, _≤_, _<_, max}
+use Prim.Native.Nat.{ℕ, _+_, _*_, _≤_, _<_}
 use native.Mathlib.Nat.{add-comm}
 use native.Mathlib.Omega.{arith}
 use lib.Dec.{ltb}
@@ -15,11 +15,11 @@ use Rattle.methodology.specs.declared.Refusal.the-variants.{Clear, Row, RowAt}
 use Rattle.methodology.specs.Account.{DayInput, Account, accounts}
 use Rattle.methodology.specs.Member.{loss}
 use Rattle.methodology.specs.Day.{total, maxEul, scale, share, five, dailies}
-use Rattle.methodology.specs.Refusals.{badAmount}
+use Rattle.methodology.specs.Refusals.{badInput, badAmount}
 use Rattle.quotient.specs.Ranges.{Loss, greatestTotal}
 use Rattle.validation.specs.Slices.{Lent, none}
 use Rattle.validation.proofs.Opening.{opening-leaves}
-use Rattle.validation.proofs.Day.{sized, accounts-members}
+use Rattle.validation.proofs.Day.{lengths-leave, sized, accounts-members}
 use Rattle.exposure.specs.declared.day.Losses.{Losses}
 use Rattle.exposure.specs.Cut.{Owners}
 use Rattle.exposure.specs.Day.{Sizable, LossesAre}
@@ -27,12 +27,13 @@ use Rattle.exposure.proofs.Bounds.{total-small}
 use Rattle.exposure.proofs.Members.{owners}
 use Rattle.exposure.proofs.Admitted.{admitted, groups-few}
 use Rattle.exposure.proofs.Found as figures
+use Rattle.fund.specs.Shares.{withShares}
 use Rattle.fund.proofs.Dailies.{are-dailies}
 use Rattle.period.specs.declared.Period.{Period}
 use Rattle.period.specs.declared.Outcome.the-variants as says
 use Rattle.period.specs.Reading.{brought}
-use Rattle.period.specs.Plain.{PlainDay, dayOf, Even}
-use Rattle.period.specs.Calls.{held, accountsBrought, dayRow, shareAt, DayMeets}
+use Rattle.period.specs.Plain.{PlainDay, dayOf, Even, withDay}
+use Rattle.period.specs.Calls.{held, accountsBrought, dayRow, shareAt, sizedPeriod, DayMeets}
 use Rattle.period.specs.Rows.{Passes}
 use Rattle.period.proofs.Ranges.{Ranged, ranged}
 use Rattle.period.proofs.DayRows.{lent}
@@ -51,7 +52,10 @@ module _ {p : Period} {d : DayInput} {room : ℕ} (s : Passes p d room) where
   members-few = opening-leaves (held p) (in-range .opened) .members-few
 
   pub room-long : room ≡ 5 * p .n
-  room-long = sized (held p) d room (s .lengths) .room-long
+  room-long = lengths-leave (held p) d room (s .lengths) .1
+
+  pub input-good : badInput (held p) d ≡ false
+  input-good = lengths-leave (held p) d room (s .lengths) .0
 
   pub groups-fit : (i : ℕ) → i < p .n → getD (p .groups) i 0 ≤ 32
   groups-fit i h =
@@ -67,7 +71,7 @@ module _ {p : Period} {d : DayInput} {room : ℕ} (s : Passes p d room) where
 
   pub total-few : total (held p) (accountsBrought p d) ≤ greatestTotal
   total-few =
-      omega (arith, total-small (accountsBrought p d) good-amount (omega (arith, accounts-long (p .k) d, sized (held p) d room (s .lengths) .few)) (held p))
+      omega (arith, total-small (accountsBrought p d) good-amount (omega (arith, accounts-long (p .k) d, sized (held p) d input-good .few)) (held p))
 
 -- what the figures ask of one in slices
 module _ {p : Period} {c : PlainDay} {room : ℕ} (even : Even (c .members) (c .numbers) (c .kinds)) (s : Passes p (dayOf c) room) where
@@ -82,29 +86,29 @@ module _ {p : Period} {c : PlainDay} {room : ℕ} (even : Even (c .members) (c .
 
   pub sizable : Sizable (p .n) (p .k) (c .members) (c .kinds) (c .npvs) (c .margins) (c .extras)
   sizable =
-      admitted (held p) (in-range s .opened) room (c .number) (c .members) (c .numbers) (c .kinds) (c .npvs) (c .margins) (c .extras) (even .kinds-long) (s .lengths) (s .headings) (s .amounts)
+      admitted (held p) (in-range s .opened) (c .number) (c .members) (c .numbers) (c .kinds) (c .npvs) (c .margins) (c .extras) (even .kinds-long) (input-good s) (s .headings) (s .amounts)
 
   -- what the program found
   module _ (r : Losses) (found : LossesAre (p .n) (p .k) (c .members) (c .kinds) (c .npvs) (c .margins) (c .extras) r) where
     pub total-is : r .total ≡ total (held p) accts
-    total-is = figures.total-is (held p) accts slices sizable own r found
+    total-is = figures.total-is (held p) accts slices own r found
 
     pub part : (r .total ≡ 0 → ⊥) → (i : ℕ) → i < p .n → Loss (getD (r .each) i 0) (r .total)
     part h i l =
         record {
           positive = omega arith;
-          part = figures.loss-part (held p) accts slices sizable own r found i l;
+          part = figures.loss-part (held p) accts slices own r found i l;
           bounded = omega (arith, total-is, total-few s);
         }
 
     pub shares :
-        map (λ i. getD (p .sums) i 0 + cond (ltb i (p .n)) (share (getD (r .each) i 0) (r .total)) 0) (range 0 32)
+        withShares (p .sums) (r .each) (p .n) (r .total)
         ≡ map (λ i. getD (p .sums) i 0 + shareAt p (dayOf c) i) (range 0 32)
     shares = map-eq _ _ (range 0 32) (λ i m. ap (λ (x : ℕ). getD (p .sums) i 0 + x) (by i (ltb i (p .n)) refl))
       where
         by : (i : ℕ) (t : Bool) → ltb i (p .n) ≡ t → cond t (share (getD (r .each) i 0) (r .total)) 0 ≡ cond t (share (loss (p .k) accts (i + 1)) (total (held p) accts)) 0
         by i true q =
-            let at : getD (r .each) i 0 ≡ loss (p .k) accts (i + 1) = figures.loss-at (held p) accts slices sizable own r found i (ltb-true i (p .n) q) ∙ ap (loss (p .k) accts) (add-comm 1 i) in
+            let at : getD (r .each) i 0 ≡ loss (p .k) accts (i + 1) = figures.loss-at (held p) accts slices own r found i (ltb-true i (p .n) q) ∙ ap (loss (p .k) accts) (add-comm 1 i) in
             rw (at, total-is)
         by i false q = refl
 
@@ -112,8 +116,8 @@ module _ {p : Period} {c : PlainDay} {room : ℕ} (even : Even (c .members) (c .
       pub top-is : top ≡ maxEul (held p) accts
       top-is = is accts slices own
 
-      pub top-part : top ≤ r .total
-      top-part = figures.top-part (held p) accts slices sizable own r found top top-is
+      pub top-few : top ≤ greatestTotal
+      top-few = omega (arith, figures.top-part (held p) accts slices own r found top top-is, total-is, total-few s)
 
       pub written : flatMap (λ e. five e top (r .total)) (take (p .n) (r .each)) ≡ dailies (held p) accts
       written = rw (top-is, total-is) (are-dailies (held p) accts (r .each) (found .each accts slices own))
@@ -127,8 +131,9 @@ module _ (p : Period) (d : DayInput) (out : List ℕ) where
   day-refused-at number index e = record { answer = rw e; period = rw e; buffer = rw e }
 
   pub day-accepted : dayRow p d (length out) ≡ Clear
-      → (t top highest : ℕ) (sums after : List ℕ)
-      → t ≡ total (held p) (accountsBrought p d) → top ≡ maxEul (held p) (accountsBrought p d) → highest ≡ max (p .highest) top
-      → sums ≡ map (λ i. getD (p .sums) i 0 + shareAt p d i) (range 0 32) → after ≡ dailies (held p) (accountsBrought p d)
-      → DayMeets p d out (record { period = record { status = p .status; n = p .n; k = p .k; groups = p .groups; last = d .number; days = p .days + 1; highest = highest; sums = sums }; outcome = says.Sized t top }) after
-  day-accepted e t top highest sums after a b h q w = record { answer = rw (e, a, b); period = rw (e, q, h, b); buffer = rw (e, w) }
+      → (t top : ℕ) (losses after : List ℕ) (next : Period)
+      → t ≡ total (held p) (accountsBrought p d) → top ≡ maxEul (held p) (accountsBrought p d)
+      → withDay p (d .number) losses t top .sums ≡ sizedPeriod p d .sums → next ≡ withDay p (d .number) losses t top
+      → after ≡ dailies (held p) (accountsBrought p d)
+      → DayMeets p d out (record { period = next; outcome = says.Sized t top }) after
+  day-accepted e t top losses after next a b q h w = record { answer = rw (e, a, b); period = rw (e, h, q, b); buffer = rw (e, w) }

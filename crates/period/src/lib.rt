@@ -1,28 +1,26 @@
 // A period: opened, sized day by day, closed. Each call takes it and hands it back inside its reply.
-mod limits;
-mod sizes;
+mod arrays;
 
-use crate::limits::bad_held;
-use crate::limits::bad_opening;
-use crate::limits::padded;
-use crate::limits::sums_above;
-use crate::sizes::bad_day_number;
-use crate::sizes::bad_lengths;
-use crate::sizes::counted;
-use crate::sizes::max_eul;
-use crate::sizes::with_shares;
+use crate::arrays::bad_held;
+use crate::arrays::max_eul;
+use crate::arrays::sums_above;
 use methodology::Heading;
 use methodology::Refusal;
 use methodology::Status;
+use validation::limits::bad_day_number;
+use validation::limits::bad_lengths;
+use validation::limits::bad_opening;
 ghost use mathlib.Core.Path.{_≡_};
 ghost use mathlib.Core.List.{List};
-ghost use lib.ListN.{length, take};
+ghost use lib.ListN.{length, getD, take};
 ghost use Rattle.headings.specs.Columns.{columns as columnsOf};
 ghost use Rattle.validation.specs.Slices.{plainDay};
 ghost use Rattle.methodology.specs.Refusals.{isOpen};
 ghost use Rattle.period.specs.Reading.{brought, dayBrought};
-ghost use Prim.Native.Nat.{_≤_};
-ghost use Rattle.period.specs.Plain.{Even, cutDay};
+ghost use Prim.Native.Nat.{ℕ, _*_, _≤_, _<_};
+ghost use Rattle.methodology.specs.Day.{scale};
+ghost use Rattle.quotient.specs.Ranges.{Loss};
+ghost use Rattle.period.specs.Plain.{Even, cutDay, withDay};
 ghost use Rattle.period.specs.Calls.{freshPeriod, inRange, statusOf, openingRow, OpeningMeets, DayMeets, closingRow, ClosingMeets};
 ghost use Rattle.period.specs.Rows.{BeforeTotal};
 
@@ -137,7 +135,7 @@ impl Period {
         let row = self.opening_row(n, k, groups);
         match row {
             Refusal::Clear => {
-                let groups = padded(groups);
+                let groups = numbers::padded(groups);
                 let period = Period {
                     status: Status::Open,
                     n,
@@ -153,13 +151,13 @@ impl Period {
                     outcome: Outcome::Opened,
                 }
             }
-            Refusal::Row(number) => Reply {
+            Refusal::Row(refused) => Reply {
                 period: self,
-                outcome: Outcome::Refused(number),
+                outcome: Outcome::Refused(refused),
             },
-            Refusal::RowAt(number, index) => Reply {
+            Refusal::RowAt(refused, index) => Reply {
                 period: self,
-                outcome: Outcome::RefusedAt(number, index),
+                outcome: Outcome::RefusedAt(refused, index),
             },
         }
     }
@@ -207,6 +205,27 @@ impl Period {
             return Refusal::RowAt(6, bad6 as u64);
         }
         Refusal::Clear
+    }
+
+    // The period with an accepted day taken in: the last accepted day number, D, M and the sums.
+    fn with_day(mut self, number: u64, losses: [u64; 32], total: u64, top: u64) -> Period
+        requires { ⌜ (self .n ≤ 32) × (self .days ≤ 31) ⌝ }
+        requires { ⌜ ((i : ℕ) → i < self .n → Loss (getD losses i 0) total) ⌝ }
+        requires { ⌜ ((i : ℕ) → getD (self .sums) i 0 ≤ 31 * scale) ⌝ }
+        ensures { λ r. ⌜ r ≡ withDay self number losses total top ⌝ }
+    {
+        let n = self.n as usize;
+        let old = self.sums;
+        let sums = fund::with_shares(old, losses, n, total);
+        let highest = numbers::greater(self.highest, top);
+        let days = self.days + 1;
+        Period {
+            last: number,
+            days,
+            highest,
+            sums,
+            ..self
+        }
     }
 
     // A day whose headings come in three slices of one length: members, account numbers, kinds.
@@ -258,29 +277,19 @@ impl Period {
                 let top = max_eul(groups, n, members, kinds, npvs, margins, extras, k);
                 let each = found.each;
                 fund::write_dailies(each, n, top, total, out);
-                let old = self.sums;
-                let sums = with_shares(old, each, n, total);
-                let highest = numbers::greater(self.highest, top);
-                let days = self.days + 1;
-                let period = Period {
-                    last: number,
-                    days,
-                    highest,
-                    sums,
-                    ..self
-                };
+                let period = self.with_day(number, each, total, top);
                 Reply {
                     period,
                     outcome: Outcome::Sized(total, top),
                 }
             }
-            Refusal::Row(number) => Reply {
+            Refusal::Row(refused) => Reply {
                 period: self,
-                outcome: Outcome::Refused(number),
+                outcome: Outcome::Refused(refused),
             },
-            Refusal::RowAt(number, index) => Reply {
+            Refusal::RowAt(refused, index) => Reply {
                 period: self,
-                outcome: Outcome::RefusedAt(number, index),
+                outcome: Outcome::RefusedAt(refused, index),
             },
         }
     }
@@ -324,7 +333,7 @@ impl Period {
     ) -> Reply
         ensures { λ r. ⌜ ((hs : List Heading) → length hs ≡ count → columns ≡ columnsOf hs → DayMeets self (dayBrought number hs (now (npvs .entry)) (now (margins .entry)) (now (extras .entry))) (now (out .entry)) r (now (out .exit))) ⌝ }
     {
-        let n = counted(count);
+        let n = headings::counted(count);
         self.cut_day(number, n, &columns, npvs, margins, extras, out)
     }
 
@@ -420,13 +429,13 @@ impl Period {
                     outcome: Outcome::Closed(days, highest, funds),
                 }
             }
-            Refusal::Row(number) => Reply {
+            Refusal::Row(refused) => Reply {
                 period: self,
-                outcome: Outcome::Refused(number),
+                outcome: Outcome::Refused(refused),
             },
-            Refusal::RowAt(number, index) => Reply {
+            Refusal::RowAt(refused, index) => Reply {
                 period: self,
-                outcome: Outcome::RefusedAt(number, index),
+                outcome: Outcome::RefusedAt(refused, index),
             },
         }
     }

@@ -3,15 +3,10 @@ use Prim.Native.Nat.{ℕ, _*_, _<_, _≤_}
 use native.Mathlib.Omega.{arith}
 use native.Mathlib.Nat.{mul-pos, mul-le-mul-left}
 use Rattle.numbers.specs.Rounding.{ceilDiv, roundDiv}
-use Rattle.numbers.proofs.Rounding.{ceil-le, ceil-pos, round-le}
+use Rattle.numbers.proofs.Rounding.{ceil-le, round-le}
 
-module _ (K e t : ℕ) (ht : 0 < t) where
-  pub share-le : e ≤ t → ceilDiv (e * K) t ≤ K
-  share-le h = ceil-le (e * K) t ht K (omega (arith, mul-le-mul-left K h))
-
-  -- no loss is too small for a share
-  pub share-pos : 0 < K → 0 < e → 0 < ceilDiv (e * K) t
-  share-pos hK he = ceil-pos (e * K) t ht (mul-pos he hK)
+pub share-le : (K e t : ℕ) → 0 < t → e ≤ t → ceilDiv (e * K) t ≤ K
+share-le K e t ht h = ceil-le (e * K) t ht K (omega (arith, mul-le-mul-left K h))
 
 pub cents-le : (f e max t : ℕ) → 0 < t → e ≤ t → roundDiv (f * e * max) t ≤ f * max
 cents-le f e max t ht h = round-le (f * e * max) t ht (f * max) (omega (arith, mul-le-mul-left (f * max) h))

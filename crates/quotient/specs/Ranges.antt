@@ -1,10 +1,11 @@
 -- The ranges in which the quotients are computed in 64 bits: those of a day and a month first, those of long division below.
 use Prim.Native.Nat.{ℕ, _+_, _*_, _/_, _^_, _<_, _≤_}
 use Rattle.methodology.specs.Day.{scale}
+use Rattle.methodology.specs.Refusals.{limit}
 
--- the greatest total of a day: 256 accounts of at most 3 · 10^12 each
+-- the greatest total of a day: 256 accounts, each of which adds at most three times the limit of an amount
 abbrev pub greatestTotal : ℕ
-greatestTotal = 256 * 3 * 10 ^ 12
+greatestTotal = 256 * 3 * limit
 
 -- a loss e in the total t of a day
 pub record Loss (e t : ℕ) : Type 0 where

@@ -3,7 +3,7 @@ ghost use mathlib.Core.Path.{_≡_};
 ghost use Prim.Native.Nat.{_*_, _+_, _/_, _%_, _<_, _≤_};
 ghost use Rattle.numbers.specs.Rounding.{ceilDiv, roundDiv};
 ghost use Rattle.methodology.specs.Day.{scale};
-ghost use Rattle.quotient.specs.Ranges.{Loss, Charge, Division, Multiple, base};
+ghost use Rattle.quotient.specs.Ranges.{greatestTotal, Loss, Charge, Division, Multiple, base};
 
 // The share of a member that has the whole loss.
 pub const SCALE: u64 = 1_000_000_000_000;
@@ -23,9 +23,10 @@ pub struct Cents {
     pub estimate: u64,
 }
 
-// The figures for a loss e in the total t, where the day's Max EUL is max. One long division serves all three.
+// The figures for a loss e in the total t, where Max EUL is max, which need not be at most t: e is a part of t, so e * max / t is at most max.
+// One long division serves all three.
 pub fn daily(e: u64, max: u64, t: u64) -> Cents
-    requires { ⌜ Loss e t × (max ≤ t) ⌝ }
+    requires { ⌜ Loss e t × (max ≤ greatestTotal) ⌝ }
     ensures { λ r. ⌜ (r .value ≡ roundDiv (100 * e * max) t) × (r .reserve ≡ roundDiv (110 * e * max) t) × (r .estimate ≡ roundDiv (220 * e * max) t) ⌝ }
 {
     let h = mul_div(e, max, t);

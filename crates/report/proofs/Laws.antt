@@ -3,17 +3,17 @@
 use mathlib.Core.Path.{_≡_, refl, sym, ap, _∙_}
 use mathlib.Core.Bool.{Bool, true, false}
 use mathlib.Core.List.{List, [], _∷_, _++_, flatMap, append-nil}
-use Prim.Native.Nat.{ℕ, zero, suc, _+_, _-_, _*_, _/_, _%_, _≤_, _<_, min}
+use Prim.Native.Nat.{ℕ, suc, _+_, _-_, _*_, _≤_, _<_, min}
 use native.Mathlib.Nat.{add-zero}
 use native.Mathlib.Numerals.{add-one}
 use native.Mathlib.Omega.{arith}
 use lib.Dec.{leb}
 use lib.ListN.{length, getD, take, drop, set, length-append, length-set}
 use lib.Seq.{sets, set-out, length-sets, sets-eq, take-suc, take-at}
-use borrow.Author.Tests.{lt-ltb, le-ltb, leb-true, leb-false}
+use borrow.Author.Tests.{leb-true, leb-false}
 use Rattle.numbers.proofs.Lists.{upto-more}
 use Rattle.numbers.proofs.Rows.{flatMap-append}
-use Rattle.methodology.specs.Text.{digits, printed, rows}
+use Rattle.methodology.specs.Text.{printed, rows}
 use Rattle.report.specs.Put.{Put}
 
 -- ---- stored elements
@@ -86,21 +86,3 @@ module _ {d e f : List ℕ} {at p r : ℕ} where
   put-row-more word width m figures a b =
       let z : m + 1 - 1 ≡ m = omega arith in
       rw (upto-more m, flatMap-append, append-nil, z) (put-then a b)
-
-  -- the last digit of n, after at most k others
-  pub put-digit-more : (k n : ℕ) → (k ≡ 0 → ⊥) → 10 ≤ n → Put d at (digits (k - 1) (n / 10)) e p → Put e p ((48 + n % 10) ∷ []) f r → Put d at (digits k n) f r
-  unfolding digits
-  put-digit-more zero n z h a b = absurd (z refl)
-  put-digit-more (suc k) n z h a b =
-      let j : suc k - 1 ≡ k = omega arith in
-      rw (le-ltb n 10 h) (put-then (rw j at a) b)
-
--- digits of which the last is the only one: no other is asked for, or the number is below 10
-pub last-only : (n : ℕ) {k : ℕ} → k ≡ 0 → digits k n ≡ (48 + n % 10) ∷ []
-unfolding digits
-last-only n e = rw e
-
-pub last-small : (k n : ℕ) → n < 10 → digits k n ≡ (48 + n % 10) ∷ []
-unfolding digits
-last-small zero n h = refl
-last-small (suc k) n h = rw (lt-ltb n 10 h)

@@ -1,9 +1,10 @@
 // The report's lines, put into a lent buffer. Nothing here asks for room: what finds none is left out, and the index that is returned is
 // then above the buffer's length.
+ghost use mathlib.Core.Path.{_≡_};
 ghost use mathlib.Core.List.{[], _∷_, flatMap};
 ghost use Prim.Native.Nat.{_+_, _*_, _≤_};
-ghost use lib.ListN.{length};
-ghost use Rattle.methodology.specs.Text.{tab, digits, decimal, printed, refusedLine, rows};
+ghost use lib.ListN.{length, drop};
+ghost use Rattle.methodology.specs.Text.{tab, decimal, printed, refusedLine, rows};
 ghost use Rattle.report.specs.Put.{Put};
 
 const TAB: u8 = 9;
@@ -35,27 +36,32 @@ pub fn put_bytes(out: &mut [u8], at: usize, bytes: &[u8]) -> usize
     p
 }
 
-// At most `more` digits before the last.
-fn put_digits(out: &mut [u8], at: usize, x: u64, more: u64) -> usize
-    ensures { λ r. ⌜ Put (now (out .entry)) at (digits more x) (now (out .exit)) r ⌝ }
+// A tab and the digits of x into the last places of a buffer of 21: a tab, and at most 20 digits. It answers the index of the tab. From the
+// back, each digit is one division, and none needs a place in the report before its number is known.
+fn field_into(x: u64, buf: &mut [u8]) -> usize
+    requires { ⌜ length (now buf) ≡ 21 ⌝ }
+    ensures { λ r. ⌜ drop r (now (buf .exit)) ≡ tab ∷ decimal x ⌝ }
+    ensures { λ r. ⌜ r ≤ 21 ⌝ }
 {
-    let digit = 48 + (x % 10) as u8;
-    if more == 0 {
-        return put(out, at, digit);
+    let mut rest = x;
+    let mut j: usize = 20;
+    while 1 < j && 9 < rest {
+        buf[j] = 48 + (rest % 10) as u8;
+        rest = rest / 10;
+        j -= 1;
     }
-    if x < 10 {
-        return put(out, at, digit);
-    }
-    let p = put_digits(out, at, x / 10, more - 1);
-    put(out, p, digit)
+    buf[j] = 48 + (rest % 10) as u8;
+    buf[j - 1] = TAB;
+    j - 1
 }
 
 // A tab and a number.
 fn put_field(out: &mut [u8], at: usize, x: u64) -> usize
     ensures { λ r. ⌜ Put (now (out .entry)) at (tab ∷ decimal x) (now (out .exit)) r ⌝ }
 {
-    let p = put(out, at, TAB);
-    put_digits(out, p, x, 19)
+    let mut buf = [0u8; 21];
+    let from = field_into(x, &mut buf);
+    put_bytes(out, at, &buf[from..21])
 }
 
 fn put_fields(out: &mut [u8], at: usize, numbers: &[u64]) -> usize

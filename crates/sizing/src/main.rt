@@ -12,7 +12,7 @@ ghost use Rattle.methodology.specs.Text.{reportOf};
 // The report of an input whose first 2,162,688 bytes, or all if it is shorter, are the first n of the buffer. No later byte can change it,
 // and it fits.
 fn report_of(text: &[u8], n: usize, out: &mut [u8]) -> usize
-    requires { ⌜ (n ≤ length (now text)) × (length (now text) ≡ 2162688) × (length (now out) ≡ 262144) ⌝ }
+    requires { ⌜ (n ≤ length (now text)) × (length (now text) ≡ 2162688) × (length (now out) ≡ 147456) ⌝ }
     ensures { λ r. ⌜ ((input : List ℕ) → take 2162688 input ≡ take n (now (text .entry)) → take r (now (out .exit)) ≡ reportOf input) ⌝ }
     ensures { λ r. ⌜ r ≤ length (now (out .exit)) ⌝ }
 {
@@ -20,7 +20,7 @@ fn report_of(text: &[u8], n: usize, out: &mut [u8]) -> usize
 }
 
 fn run(text: &mut [u8], out: &mut [u8])
-    requires { ⌜ (length (now text) ≡ 2162688) × (length (now out) ≡ 262144) ⌝ }
+    requires { ⌜ (length (now text) ≡ 2162688) × (length (now out) ≡ 147456) ⌝ }
 {
     let input = read_all(text);
     let n = input.bytes;
@@ -38,12 +38,12 @@ fn run(text: &mut [u8], out: &mut [u8])
 }
 
 // Between arrays and slices: lent by its type, an array has its length without counting it.
-fn lend(text: &mut [u8; 2162688], out: &mut [u8; 262144]) {
+fn lend(text: &mut [u8; 2162688], out: &mut [u8; 147456]) {
     run(text, out);
 }
 
 fn main() {
     let mut text = [0; 2162688];
-    let mut out = [0; 262144];
+    let mut out = [0; 147456];
     lend(&mut text, &mut out);
 }

@@ -13,34 +13,38 @@ use borrow.Author.Tests.{ltb-false, eqb-true, not-false}
 use Rattle.numbers.specs.Lists.{any, firstWhere}
 use Rattle.numbers.proofs.Tests.{neither}
 use Rattle.numbers.proofs.Lists.{table-length, table-at, own-table, part-at, part-length, mem-at, any-false, first-before}
-use Rattle.methodology.specs.Account.{Opening, DayInput, Account, nobody, accountAt, accounts}
-use Rattle.methodology.specs.Refusals.{outside, badLengths, firstBadHeading, limit, npvOutside, badAmount}
+use Rattle.methodology.specs.Account.{Opening, DayInput, Account, nobody, headingAt, accountAt, accounts}
+use Rattle.methodology.specs.Refusals.{outside, countOutside, badInput, badOutput, badLengths, firstBadHeading, limit, npvOutside, badAmount}
+use Rattle.methodology.proofs.Passed.{inside}
 use Rattle.validation.specs.Slices.{headings, plainDay, none, Amounts, Lent}
 use Rattle.validation.specs.Rows.{Sized, Passed}
-use Rattle.validation.proofs.Headings.{headingAt, headings-length, heading-at, headings-members, Fine, fine, all-good}
+use Rattle.validation.proofs.Headings.{headings-length, heading-at, headings-members, Fine, fine, all-good}
 use Rattle.validation.proofs.Amounts.{npv-limit, badAt, bad-at}
 
--- row 4
-pub sized : (o : Opening) (d : DayInput) (room : ℕ) → badLengths o d room ≡ false → Sized o d room
+-- row 4: what the day brings, and its output
+pub lengths-leave : (o : Opening) (d : DayInput) (room : ℕ) → badLengths o d room ≡ false → (badInput o d ≡ false) × (room ≡ 5 * o .n)
 unfolding badLengths
-sized o d room e =
+lengths-leave o d room e =
+    let (input, output) = neither (badInput o d) (badOutput o room) e in
+    (input, eqb-true room (5 * o .n) (not-false _ output))
+
+pub sized : (o : Opening) (d : DayInput) → badInput o d ≡ false → Sized o d
+sized o d e =
     let count = length (d .headings) in
-    let (e4, r) = neither _ (not (eqb room (5 * o .n))) e in
-    let (e3, x) = neither _ (not (eqb (length (d .extras)) count)) e4 in
+    let (e3, x) = neither _ (not (eqb (length (d .extras)) count)) e in
     let (e2, m) = neither _ (not (eqb (length (d .margins)) count)) e3 in
-    let (e1, p) = neither (outside 1 256 count) (not (eqb (length (d .npvs)) (count * (o .k + 1)))) e2 in
-    let (low, high) = neither (ltb count 1) (ltb 256 count) e1 in
+    let (e1, p) = neither (countOutside count) (not (eqb (length (d .npvs)) (count * (o .k + 1)))) e2 in
+    let limits = inside _ _ count e1 in
     record {
-      some = ltb-false count 1 low;
-      few = ltb-false 256 count high;
+      some = limits .0;
+      few = limits .1;
       npvs-long = eqb-true _ _ (not-false _ p);
       margins-long = eqb-true _ _ (not-false _ m);
       extras-long = eqb-true _ _ (not-false _ x);
-      room-long = eqb-true _ _ (not-false _ r);
     }
 
 -- the accounts of any day have its headings
-pub accounts-headings : (k : ℕ) (d : DayInput) → map (λ a. a .heading) (accounts k d) ≡ d .headings
+accounts-headings : (k : ℕ) (d : DayInput) → map (λ a. a .heading) (accounts k d) ≡ d .headings
 unfolding accounts accountAt
 accounts-headings k d = rw map-map (sym (own-table (d .headings) nobody))
 
@@ -100,8 +104,7 @@ module _ {k : ℕ} {npvs : List ℤ} {margins extras : List ℕ} {accts : List A
       let row = any npvOutside (take (k + 1) (drop (i * (k + 1)) npvs)) in
       let (a, extra) = neither (row || outside 0 limit (getD margins i 0)) (ltb (getD margins i 0) (getD extras i 0)) good in
       let (npv, margin) = neither row (outside 0 limit (getD margins i 0)) a in
-      let (low, high) = neither (ltb (getD margins i 0) 0) (ltb limit (getD margins i 0)) margin in
-      (npv, ltb-false limit (getD margins i 0) high, ltb-false (getD margins i 0) (getD extras i 0) extra)
+      (npv, inside _ _ (getD margins i 0) margin .1, ltb-false (getD margins i 0) (getD extras i 0) extra)
 
   npv-in : (x : ℕ) → x < length npvs → natAbs (getD npvs x (pos 0)) ≤ limit
   npv-in x l =
@@ -118,13 +121,13 @@ module _ {k : ℕ} {npvs : List ℤ} {margins extras : List ℕ} {accts : List A
       rw (part-at (i * w) w npvs j (pos 0) j-in, div-add-mod' x w) at z
 
 -- rows 4 to 6 together
-pub rows-leave : (o : Opening) (room number : ℕ) (members numbers kinds : List ℕ) (npvs : List ℤ) (margins extras : List ℕ) → length kinds ≡ length members
+pub rows-leave : (o : Opening) (number : ℕ) (members numbers kinds : List ℕ) (npvs : List ℤ) (margins extras : List ℕ) → length kinds ≡ length members
     → let d = plainDay number members numbers kinds npvs margins extras in
-    badLengths o d room ≡ false → firstBadHeading (o .n) nobody (d .headings) ≡ length (d .headings) → firstWhere badAmount (accounts (o .k) d) ≡ length (d .headings)
+    badInput o d ≡ false → firstBadHeading (o .n) nobody (d .headings) ≡ length (d .headings) → firstWhere badAmount (accounts (o .k) d) ≡ length (d .headings)
     → Passed o members kinds npvs margins extras
-rows-leave o room number members numbers kinds npvs margins extras ek e4 e5 e6 =
+rows-leave o number members numbers kinds npvs margins extras ek e4 e5 e6 =
     let d = plainDay number members numbers kinds npvs margins extras in
-    let size = sized o d room e4 in
+    let size = sized o d e4 in
     let hl : length (d .headings) ≡ length members = headings-length members numbers kinds in
     let al : length (accounts (o .k) d) ≡ length members = accounts-length (o .k) number members numbers kinds npvs margins extras in
     let nl : length npvs ≡ length members * (o .k + 1) = rw hl at (size .npvs-long) in

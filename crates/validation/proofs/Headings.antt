@@ -15,23 +15,23 @@ use Rattle.numbers.specs.Lists.{any}
 use Rattle.numbers.proofs.Tests.{neither, not-less, not-ltb}
 use Rattle.numbers.proofs.Lists.{table-length, table-at, own-table, any-map}
 use Rattle.methodology.specs.declared.Heading.{Heading}
-use Rattle.methodology.specs.Account.{nobody, kindU}
+use Rattle.methodology.specs.Account.{nobody, headingAt, kindH, kindR, kindA, kindU}
 use Rattle.methodology.specs.Refusals.{memberOutside, notRising, numberAbove, kindUnknown, zeroAndHouseApart, firstNotZero, memberSkipped, badHeading, firstBadHeading, lastMissing}
 use Rattle.validation.specs.Slices.{headings}
 
--- the known kinds are those up to 3
-kind-unknown : (h : Heading) → kindUnknown h ≡ ltb 3 (h .kind)
+-- the known kinds are those up to U
+kind-unknown : (h : Heading) → kindUnknown h ≡ ltb kindU (h .kind)
 kind-unknown h = by (h .kind)
   where
-    by : (k : ℕ) → not (eqb k 0 || eqb k 1 || eqb k 2 || eqb k 3) ≡ ltb 3 k
+    by : (k : ℕ) → not (eqb k kindH || eqb k kindR || eqb k kindA || eqb k kindU) ≡ ltb kindU k
     by zero = refl
     by (suc zero) = refl
     by (suc (suc zero)) = refl
     by (suc (suc (suc zero))) = refl
     by (suc (suc (suc (suc k)))) =
         let x = suc (suc (suc (suc k))) in
-        rw (ne-eqb x 0 (λ e. omega arith), ne-eqb x 1 (λ e. omega arith), ne-eqb x 2 (λ e. omega arith), ne-eqb x 3 (λ e. omega arith))
-        (sym (lt-ltb 3 x (omega arith)))
+        rw (ne-eqb x kindH (λ e. omega arith), ne-eqb x kindR (λ e. omega arith), ne-eqb x kindA (λ e. omega arith), ne-eqb x kindU (λ e. omega arith))
+        (sym (lt-ltb kindU x (omega arith)))
 
 -- a heading by itself
 module _ (n : ℕ) (h : Heading) where
@@ -47,16 +47,16 @@ module _ (n : ℕ) (h : Heading) where
   pub number-above : 65535 < h .number → true ≡ alone
   number-above l = rw (lt-ltb 65535 (h .number) l, or-true)
 
-  pub kind-above : 3 < h .kind → true ≡ alone
-  kind-above l = rw (kind-unknown h ∙ lt-ltb 3 (h .kind) l, or-true)
+  pub kind-above : kindU < h .kind → true ≡ alone
+  kind-above l = rw (kind-unknown h ∙ lt-ltb kindU (h .kind) l, or-true)
 
-  pub in-range : 1 ≤ h .member → h .member ≤ n → h .number ≤ 65535 → h .kind ≤ 3 → zeroAndHouseApart h ≡ alone
-  in-range a b c d = rw (le-ltb (h .member) 1 a, le-ltb n (h .member) b, le-ltb 65535 (h .number) c, kind-unknown h ∙ le-ltb 3 (h .kind) d)
+  pub in-range : 1 ≤ h .member → h .member ≤ n → h .number ≤ 65535 → h .kind ≤ kindU → zeroAndHouseApart h ≡ alone
+  in-range a b c d = rw (le-ltb (h .member) 1 a, le-ltb n (h .member) b, le-ltb 65535 (h .number) c, kind-unknown h ∙ le-ltb kindU (h .kind) d)
 
-pub number-zero : (h : Heading) → h .number ≡ 0 → not (eqb (h .kind) 0) ≡ zeroAndHouseApart h
+pub number-zero : (h : Heading) → h .number ≡ 0 → not (eqb (h .kind) kindH) ≡ zeroAndHouseApart h
 number-zero h e = rw (eq-eqb (h .number) 0 e, and-false, or-false)
 
-pub number-not-zero : (h : Heading) → (h .number ≡ 0 → ⊥) → eqb (h .kind) 0 ≡ zeroAndHouseApart h
+pub number-not-zero : (h : Heading) → (h .number ≡ 0 → ⊥) → eqb (h .kind) kindH ≡ zeroAndHouseApart h
 number-not-zero h e = rw (ne-eqb (h .number) 0 e, and-true)
 
 -- and after the one before it
@@ -96,16 +96,13 @@ bad-is n prev h = regroup (memberOutside n h) (notRising prev h) (numberAbove h)
 
 -- the headings of three slices
 module _ (members numbers kinds : List ℕ) where
-  abbrev pub headingAt : ℕ → Heading
-  headingAt i = record { member = getD members i 0; number = getD numbers i 0; kind = getD kinds i 0 }
-
   pub headings-length : length (headings members numbers kinds) ≡ length members
   unfolding headings
-  headings-length = table-length headingAt 0 (length members)
+  headings-length = table-length (headingAt members numbers kinds) 0 (length members)
 
-  pub heading-at : (i : ℕ) → i < length members → getD (headings members numbers kinds) i nobody ≡ headingAt i
+  pub heading-at : (i : ℕ) → i < length members → getD (headings members numbers kinds) i nobody ≡ headingAt members numbers kinds i
   unfolding headings
-  heading-at i l = table-at headingAt 0 (length members) i nobody l ∙ rw zero-add
+  heading-at i l = table-at (headingAt members numbers kinds) 0 (length members) i nobody l ∙ rw zero-add
 
   pub headings-members : map (λ h. h .member) (headings members numbers kinds) ≡ members
   unfolding headings

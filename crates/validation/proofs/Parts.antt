@@ -30,7 +30,7 @@ within-part {k} {kinds} {npvs} {margins} {extras} all a c h =
     }
 
 -- the amounts
-pub amounts-part : {k : ℕ} {npvs : List ℤ} {margins extras : List ℕ} {accts : List Account} → Amounts k npvs margins extras accts → (a c : ℕ) → a + c ≤ length accts
+amounts-part : {k : ℕ} {npvs : List ℤ} {margins extras : List ℕ} {accts : List Account} → Amounts k npvs margins extras accts → (a c : ℕ) → a + c ≤ length accts
     → Amounts k (take (c * (k + 1)) (drop (a * (k + 1)) npvs)) (take c (drop a margins)) (take c (drop a extras)) (take c (drop a accts))
 amounts-part {k} {npvs} {margins} {extras} {accts} all a c h =
     let w = k + 1 in

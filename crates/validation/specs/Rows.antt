@@ -16,14 +16,13 @@ pub record Opened (o : Opening) : Type 0 where
   pub groups-long : length (o .groups) ≡ o .n
   pub group-few : (i : ℕ) → i < o .n → getD (o .groups) i 0 ≤ 32
 
--- row 4: lengths that agree
-pub record Sized (o : Opening) (d : DayInput) (room : ℕ) : Type 0 where
+-- row 4 of what a day brings: lengths that agree
+pub record Sized (o : Opening) (d : DayInput) : Type 0 where
   pub some : 1 ≤ length (d .headings)
   pub few : length (d .headings) ≤ 256
   pub npvs-long : length (d .npvs) ≡ length (d .headings) * (o .k + 1)
   pub margins-long : length (d .margins) ≡ length (d .headings)
   pub extras-long : length (d .extras) ≡ length (d .headings)
-  pub room-long : room ≡ 5 * o .n
 
 -- rows 4 to 6, of a day in plain slices
 pub record Passed (o : Opening) (members kinds : List ℕ) (npvs : List ℤ) (margins extras : List ℕ) : Type 0 where

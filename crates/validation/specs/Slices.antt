@@ -6,13 +6,12 @@ use lib.IntN.{ℤ, pos, natAbs}
 use lib.ListN.{length, getD, take, drop}
 use Rattle.numbers.specs.Lists.{range}
 use Rattle.methodology.specs.declared.Heading.{Heading}
-use Rattle.methodology.specs.Account.{DayInput, Account, nobody, kindU}
+use Rattle.methodology.specs.Account.{DayInput, Account, nobody, headingAt, kindU}
 use Rattle.methodology.specs.Refusals.{limit}
 
 -- the headings whose members, account numbers and kinds come as three slices
 unfoldable pub headings : (members numbers kinds : List ℕ) → List Heading
-headings members numbers kinds =
-    map (λ i. record { member = getD members i 0; number = getD numbers i 0; kind = getD kinds i 0 }) (range 0 (length members))
+headings members numbers kinds = map (headingAt members numbers kinds) (range 0 (length members))
 
 -- a day in plain slices
 abbrev pub plainDay : (number : ℕ) → (members numbers kinds : List ℕ) → (npvs : List ℤ) → (margins extras : List ℕ) → DayInput

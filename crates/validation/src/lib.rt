@@ -1,5 +1,10 @@
-// Rows 5 and 6 of the refusal table, over a day in plain slices. Any numbers may come in: a wrong one is an answer.
+// The rows of the refusal table that go by a call's arguments: 5 and 6 here, over a day in plain slices, and the limits of rows 1, 3 and 4.
+// Any numbers may come in: a wrong one is an answer.
+pub mod limits;
+
 use methodology::Heading;
+use methodology::KIND_H;
+use methodology::KIND_U;
 ghost use mathlib.Core.Path.{_≡_};
 ghost use mathlib.Core.Bool.{_||_};
 ghost use mathlib.Core.List.{List};
@@ -47,8 +52,8 @@ fn bad_heading(n: u64, prev: Heading, h: Heading) -> bool
     bad_after(prev, h)
 }
 
-// Whether it is bad by itself: a member outside 1 to n, a number above 65,535, an unknown kind (H, R, A and U are 0 to
-// 3), number 0 without H or H without 0.
+// Whether it is bad by itself: a member outside 1 to n, a number above 65,535, an unknown kind (the known ones go up to U), number 0 without
+// H or H without 0.
 fn bad_alone(n: u64, h: Heading) -> bool
     ensures { λ r. ⌜ r ≡ (memberOutside n h || numberAbove h || kindUnknown h || zeroAndHouseApart h) ⌝ }
 {
@@ -61,13 +66,13 @@ fn bad_alone(n: u64, h: Heading) -> bool
     if h.number > 65535 {
         return true;
     }
-    if h.kind > 3 {
+    if h.kind > KIND_U {
         return true;
     }
     if h.number == 0 {
-        return h.kind != 0;
+        return h.kind != KIND_H;
     }
-    h.kind == 0
+    h.kind == KIND_H
 }
 
 // Whether it is bad after prev: not strictly rising by member, then number; a member's first account that is not 0; a

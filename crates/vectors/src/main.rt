@@ -2,8 +2,7 @@
 // written after such a line with the word `report`. A text that is not of this form ends the run.
 use input::read_all;
 use libc::STDOUT_FILENO;
-use lines::Pair;
-use lines::pair_at;
+use lines::numbers_at;
 use report::put_line;
 ghost use Prim.Native.Nat.{_≤_};
 ghost use lib.ListN.{length};
@@ -13,13 +12,13 @@ fn run_month(text: &[u8], at: usize, heading: &mut [u8], out: &mut [u8]) -> usiz
     requires { ⌜ at ≤ length (now text) ⌝ }
     ensures { λ r. ⌜ r ≤ length (now (text .entry)) ⌝ }
 {
-    let head = pair_at(text, at, b"month");
-    let Pair::Two(number, size, start) = head else {
-        return 0;
-    };
-    if text.len() < start {
+    let mut head = [0u64; 2]; // number, bytes
+    let start = numbers_at(text, at, b"month", &mut head);
+    if start == 0 {
         return 0;
     }
+    let number = head[0];
+    let size = head[1];
     if ((text.len() - start) as u64) < size {
         return 0;
     }

@@ -1,4 +1,4 @@
--- `read_accounts` meets its contract. The invariant: what the report is from the cursor on (`Reading`), and the slices keep their lengths.
+-- `read_accounts` meets its contract. The invariant: what the report is from the cursor on (`ReadSoFar`), and the slices keep their lengths.
 use mathlib.Core.Path.{_≡_, refl, _∙_}
 use mathlib.Core.List.{List}
 use Prim.Native.Nat.{ℕ, _+_, _-_, _*_, _≤_, _<_}
@@ -11,7 +11,7 @@ use Rattle.methodology.specs.Text.{LF, accountOf}
 use Rattle.methodology.specs.Lines.{indexOf, lineRead}
 use Rattle.lines.specs.Forms.{AccountIs}
 use Rattle.accounts.proofs.Stores.{place-inside, npvs-stored}
-use Rattle.accounts.proofs.Reading.{account-read, Reading, reading-none, reading-all, reading-bad, next-is, reading-over, reading-more}
+use Rattle.accounts.proofs.AcctLoop.{account-read, ReadSoFar, reading-none, reading-all, reading-bad, next-is, reading-over, reading-more}
 use Rattle.accounts.proofs.read_accounts.Statement.{statement}
 use Rattle.accounts.proofs.read_accounts.Tie as tie
 
@@ -24,7 +24,7 @@ Inv-loop text p count row₀ members₀ numbers₀ kinds₀ npvs₀ margins₀ e
     × (length npvs ≡ length npvs₀)
     × (length margins ≡ length margins₀)
     × (length extras ≡ length extras₀)
-    × Reading text p count (length row₀ - 6) j at members numbers kinds npvs margins extras
+    × ReadSoFar text p count (length row₀ - 6) j at members numbers kinds npvs margins extras
 
 abbrev μ-loop : tie.MeasureT-loop
 μ-loop text p count row₀ members₀ numbers₀ kinds₀ npvs₀ margins₀ extras₀ width at₀ j₀ row members numbers kinds npvs margins extras at j =
@@ -59,7 +59,7 @@ module _ (c : tie.After-account-at Inv-loop μ-loop) where
   abbrev r : ℕ
   r = c .account-at .result
 
-  abbrev reading : Reading text (start .args .p) (start .args .count) (held - 6) j at (here .loop .members) (here .loop .numbers) (here .loop .kinds) npvs (here .loop .margins) (here .loop .extras)
+  abbrev reading : ReadSoFar text (start .args .p) (start .args .count) (held - 6) j at (here .loop .members) (here .loop .numbers) (here .loop .kinds) npvs (here .loop .margins) (here .loop .extras)
   reading = here .loop .inv .7
 
   told : AccountIs (lineRead (accountOf (held - 6)) (drop at text)) (at + indexOf LF (drop at text) + 1) row r

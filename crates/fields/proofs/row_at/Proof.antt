@@ -14,17 +14,17 @@ use Rattle.fields.proofs.row_at.Statement.{statement}
 use Rattle.fields.proofs.row_at.Tie as tie
 
 abbrev Inv-loop : tie.InvT-loop
-Inv-loop text p kind row₀ at₀ j₀ row at j = Rows text p kind (length row₀) row at j
+Inv-loop text p place row₀ at₀ j₀ row at j = Rows text p place (length row₀) row at j
 
 abbrev μ-loop : tie.MeasureT-loop
-μ-loop text p kind row₀ at₀ j₀ row at j = length row₀ - j
+μ-loop text p place row₀ at₀ j₀ row at j = length row₀ - j
 
 -- the field's value that the byte `end` ends
 abbrev value : (c : tie.After-due Inv-loop μ-loop) → (end : ℕ) → Option ℤ
 value c end =
     let l = c .before .before in
     let a = l .before .before .args in
-    valueAt (eqb (l .loop .j) (a .kind)) end (drop (l .loop .at) (a .text .now))
+    valueAt (eqb (l .loop .j) (a .place)) end (drop (l .loop .at) (a .text .now))
 
 -- the byte that is due, by the row's length at the start
 value-is : (c : tie.After-due Inv-loop μ-loop) → value c (due (length (c .before .before .before .before .args .row .now) - c .before .before .loop .j - 1)) ≡ value c (c .due .result)

@@ -4,8 +4,8 @@ use Prim.Native.Nat.{_-_}
 use lib.ListN.{replicate, length-replicate}
 use Rattle.numbers.proofs.Filling.{Filled, filled-none, filled-more, filled-all}
 use Rattle.methodology.specs.declared.Heading.{Heading}
-use Rattle.methodology.specs.Account.{nobody}
-use Rattle.headings.specs.Columns.{headingAt, packed}
+use Rattle.methodology.specs.Account.{nobody, headingAt}
+use Rattle.headings.specs.Columns.{packed}
 use Rattle.headings.proofs.pack.Statement.{statement}
 use Rattle.headings.proofs.pack.Tie as tie
 

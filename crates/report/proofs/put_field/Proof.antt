@@ -1,22 +1,44 @@
--- `put_field` meets its contract: a tab, and the digits after it.
+-- `put_field` meets its contract: the part of its buffer that `field_into` filled is put.
+use Rattle.report.proofs.Digits.{from-part}
 use borrow.Author.Needs.{needs}
-use Rattle.report.proofs.Laws.{put-then}
 use Rattle.report.proofs.put_field.Statement.{statement}
 use Rattle.report.proofs.put_field.Tie as tie
 
-put-requires : tie.Need-put-requires
-put-requires c κs = search needs
+slice-aggregate-field-into : tie.Need-slice-aggregate-field-into
+slice-aggregate-field-into c = search needs
 
-put-digits-requires : tie.Need-put-digits-requires
-put-digits-requires c κs = search needs
+field-into-requires : tie.Need-field-into-requires
+field-into-requires c κs = search needs
+
+sub-put-bytes : tie.Need-sub-put-bytes
+sub-put-bytes c = search needs
+
+part-put-bytes-start : tie.Need-part-put-bytes-start
+part-put-bytes-start c = search needs
+
+part-put-bytes-end : tie.Need-part-put-bytes-end
+part-put-bytes-end c = search needs
+
+put-bytes-requires : tie.Need-put-bytes-requires
+put-bytes-requires c κs = search needs
 
 same-length : tie.Need-same-length
 same-length c = search needs
 
 returns : tie.Need-returns
 returns c =
-    let d = c .before .before in
-    put-then (d .before .before .before .before .put .ensures) (d .put-digits .ensures)
+    let f = c .before .before .before .before .before .before .before .field-into in
+    rw (from-part _ _ _ (f .kept .1 .0) (f .ensures .0)) at (c .before .before .put-bytes .ensures)
 
 pub put-field-spec : {M : Type 1} → statement M
-put-field-spec = tie.close (tie.spec put-requires put-digits-requires same-length returns)
+put-field-spec =
+    tie.close
+    (tie.spec
+    slice-aggregate-field-into
+    field-into-requires
+    sub-put-bytes
+    part-put-bytes-start
+    part-put-bytes-end
+    put-bytes-requires
+    same-length
+    returns)

@@ -1,9 +1,8 @@
 -- `npv_outside` meets its contract. The invariant: no NPV before i is outside.
 use mathlib.Core.Path.{_≡_, sym}
-use mathlib.Core.Bool.{true, false}
+use mathlib.Core.Bool.{true}
 use mathlib.Core.List.{List}
-use Prim.Native.Nat.{ℕ, _-_, _≤_, _<_}
-use borrow.Author.Count.{below-none, below-more}
+use Prim.Native.Nat.{_-_}
 use borrow.Author.Needs.{needs}
 use lib.IntN.{ℤ, pos}
 use lib.ListN.{length, getD}
@@ -11,14 +10,14 @@ use mir.Syntax.{w64}
 use mir.Val.{SFits}
 use Rattle.numbers.specs.Lists.{any}
 use Rattle.numbers.proofs.Signed.{lit-fits, lt-held, lt-failed}
-use Rattle.numbers.proofs.Lists.{mem-at, some-any, any-none}
+use Rattle.numbers.proofs.Lists.{NoneBefore, none-before, none-more, any-found, any-none}
 use Rattle.methodology.specs.Refusals.{npvOutside}
 use Rattle.validation.proofs.Amounts.{lowest, highest, npv-below, npv-above, npv-inside}
 use Rattle.validation.proofs.npv_outside.Statement.{statement}
 use Rattle.validation.proofs.npv_outside.Tie as tie
 
 abbrev Inv-loop : tie.InvT-loop
-Inv-loop row i₀ i = (i ≤ length row) × ((j : ℕ) → j < i → npvOutside (getD row j (pos 0)) ≡ false)
+Inv-loop row i₀ i = NoneBefore npvOutside row (pos 0) i
 
 abbrev μ-loop : tie.MeasureT-loop
 μ-loop row i₀ i = length row - i
@@ -41,10 +40,10 @@ module _ (c : tie.After-z Inv-loop μ-loop) where
   fits = search needs
 
   found : npvOutside z ≡ true → true ≡ any npvOutside row
-  found e = sym (some-any npvOutside (mem-at row (pos 0) (c .before .loop-test .taken)) e)
+  found e = sym (any-found npvOutside row (pos 0) _ (c .before .loop-test .taken) e)
 
 loop-holds : tie.Need-loop-holds Inv-loop μ-loop
-loop-holds c = (search needs, below-none _)
+loop-holds c = none-before _ _ _
 
 mul-z : tie.Need-mul-z Inv-loop μ-loop
 mul-z c = search needs
@@ -69,10 +68,10 @@ loop-again c =
     let p = c .before .before in
     let low = lt-failed (fits p) low-fits (c .before .if1 .left) in
     let high = lt-failed high-fits (fits p) (c .if2 .left) in
-    (search needs, below-more _ _ (p .before .before .loop .inv .1) (npv-inside (z p) low high))
+    none-more _ _ _ _ (p .before .loop-test .taken) (npv-inside (z p) low high) (p .before .before .loop .inv)
 
 returns-3 : tie.Need-returns-3 Inv-loop μ-loop
-returns-3 c = sym (any-none npvOutside (c .before .before .args .row .now) (pos 0) _ (c .loop-test .left) (c .before .loop .inv .1))
+returns-3 c = sym (any-none _ _ _ _ (c .loop-test .left) (c .before .loop .inv))
 
 pub npv-outside-spec : {M : Type 1} → statement M
 npv-outside-spec =

@@ -1,34 +1,35 @@
 -- `run_month` is safe: a month is run only where all of it is there.
 use mathlib.Core.Path.{refl}
+use native.Mathlib.Omega.{arith}
 use Rattle.numbers.specs.Lists.{any}
 use borrow.Author.Needs.{needs}
 use Rattle.vectors.proofs.run_month.Statement.{statement}
 use Rattle.vectors.proofs.run_month.Tie as tie
 
-slice-aggregate-pair-at : tie.Need-slice-aggregate-pair-at
-slice-aggregate-pair-at c = search needs
+slice-aggregate-numbers-at : tie.Need-slice-aggregate-numbers-at
+slice-aggregate-numbers-at c = search needs
 
-pair-at-requires : tie.Need-pair-at-requires
+slice-aggregate-numbers-at-2 : tie.Need-slice-aggregate-numbers-at-2
+slice-aggregate-numbers-at-2 c = search needs
+
+numbers-at-requires : tie.Need-numbers-at-requires
 unfolding any
-pair-at-requires c κs = (c .before .before .before .before .pre, refl)
-
-enum-known-head : tie.Need-enum-known-head
-enum-known-head c = search needs
-
-enum-told : tie.Need-enum-told
-enum-told c = search needs
+numbers-at-requires c κs = (c .before .before .before .before .before .pre, (refl, (omega arith, omega arith)))
 
 returns : tie.Need-returns
 returns c = search needs
 
-returns-2 : tie.Need-returns-2
-returns-2 c = search needs
+array-read-number : tie.Need-array-read-number
+array-read-number c = search needs
+
+array-read-size : tie.Need-array-read-size
+array-read-size c = search needs
 
 sub-if2 : tie.Need-sub-if2
 sub-if2 c = search needs
 
-returns-3 : tie.Need-returns-3
-returns-3 c = search needs
+returns-2 : tie.Need-returns-2
+returns-2 c = search needs
 
 add-next : tie.Need-add-next
 add-next c = search needs
@@ -48,8 +49,8 @@ report-requires c κs = search needs
 same-length : tie.Need-same-length
 same-length c = search needs
 
-returns-4 : tie.Need-returns-4
-returns-4 c = search needs
+returns-3 : tie.Need-returns-3
+returns-3 c = search needs
 
 slice-aggregate-put-line : tie.Need-slice-aggregate-put-line
 slice-aggregate-put-line c = search needs
@@ -66,8 +67,8 @@ same-length-2 c = search needs
 same-length-3 : tie.Need-same-length-3
 same-length-3 c = search needs
 
-returns-5 : tie.Need-returns-5
-returns-5 c = search needs
+returns-4 : tie.Need-returns-4
+returns-4 c = search needs
 
 sub-write-all : tie.Need-sub-write-all
 sub-write-all c = search needs
@@ -99,34 +100,34 @@ same-length-4 c = search needs
 same-length-5 : tie.Need-same-length-5
 same-length-5 c = search needs
 
-returns-6 : tie.Need-returns-6
-returns-6 c = search needs
+returns-5 : tie.Need-returns-5
+returns-5 c = search needs
 
 pub run-month-spec : {M : Type 1} → statement M
 run-month-spec =
     tie.close
     (tie.spec
-    slice-aggregate-pair-at
-    pair-at-requires
-    enum-known-head
-    enum-told
+    slice-aggregate-numbers-at
+    slice-aggregate-numbers-at-2
+    numbers-at-requires
     returns
-    returns-2
+    array-read-number
+    array-read-size
     sub-if2
-    returns-3
+    returns-2
     add-next
     sub-report
     part-report-start
     part-report-end
     report-requires
     same-length
-    returns-4
+    returns-3
     slice-aggregate-put-line
     slice-aggregate-put-line-2
     put-line-requires
     same-length-2
     same-length-3
-    returns-5
+    returns-4
     sub-write-all
     part-write-all-start
     part-write-all-end
@@ -137,4 +138,4 @@ run-month-spec =
     write-all-requires-2
     same-length-4
     same-length-5
-    returns-6)
+    returns-5)

@@ -1,8 +1,9 @@
--- `max_eul` meets its contract: the pass of `MaxPass`.
+-- `max_eul` meets its contract: the pass of `MaxPass`, member by member.
 use borrow.Author.Needs.{needs}
 use Prim.Native.Nat.{_-_}
 use lib.ListN.{length}
-use Rattle.exposure.proofs.MaxPass.{MaxPass, max-none, max-more, max-all, end-le, rows-shape, row-near}
+use Rattle.exposure.proofs.MaxPass.{MaxPass, max-none, max-more, max-all, rows-shape, row-near}
+use Rattle.exposure.proofs.Members.{cut-inside}
 use Rattle.exposure.proofs.day.max_eul.Statement.{statement}
 use Rattle.exposure.proofs.day.max_eul.Tie as tie
 
@@ -25,7 +26,7 @@ row-between-requires : tie.Need-row-between-requires Inv-loop μ-loop
 row-between-requires c κs =
     let s = c .before .before .before .before .before .before .before .before .pre .0 in
     let e = c .end-of .ensures in
-    (s .within, s .scenarios-few, e .0, end-le s (c .before .before .loop .inv) (e .1))
+    (s .within, s .scenarios-few, e .0, cut-inside s (e .1))
 
 row-greatest-requires : tie.Need-row-greatest-requires Inv-loop μ-loop
 row-greatest-requires c κs = c .row-between .ensures .long

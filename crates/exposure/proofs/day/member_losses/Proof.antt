@@ -1,8 +1,13 @@
--- `member_losses` meets its contract: the pass of `LossPass`.
+-- `member_losses` meets its contract: the pass of `LossPass`, member by member.
 use borrow.Author.Needs.{needs}
+use mathlib.Core.Path.{_≡_}
 use Prim.Native.Nat.{_-_}
 use native.Mathlib.Omega.{arith}
-use Rattle.exposure.proofs.LossPass.{LossPass, loss-none, loss-more, loss-all, end-le, sum-small}
+use mir.Syntax.{w64}
+use Rattle.numbers.specs.Signed.{_⁺}
+use Rattle.numbers.proofs.Signed.{back-ok}
+use Rattle.exposure.proofs.LossPass.{LossPass, loss-none, loss-more, loss-all, sum-small}
+use Rattle.exposure.proofs.Members.{cut-inside}
 use Rattle.exposure.proofs.day.member_losses.Statement.{statement}
 use Rattle.exposure.proofs.day.member_losses.Tie as tie
 
@@ -21,26 +26,33 @@ add-end-of c = search needs
 end-of-requires : tie.Need-end-of-requires Inv-loop μ-loop
 end-of-requires c κs = (c .before .before .before .before .before .before .pre .rising, c .before .loop .inv .cut)
 
-loss-between-requires : tie.Need-loss-between-requires Inv-loop μ-loop
-loss-between-requires c κs =
+eul-between-requires : tie.Need-eul-between-requires Inv-loop μ-loop
+eul-between-requires c κs =
     let s = c .before .before .before .before .before .before .before .pre in
     let e = c .end-of .ensures in
-    (s .within, s .scenarios-few, e .0, end-le s (c .before .before .loop .inv) (e .1))
+    (s .within, s .scenarios-few, omega arith, e .0, cut-inside s (e .1))
+
+gain-requires : tie.Need-gain-requires Inv-loop μ-loop
+gain-requires c κs = search needs
 
 mul-each : tie.Need-mul-each Inv-loop μ-loop
 mul-each c = search needs
 
 array-write-each : tie.Need-array-write-each Inv-loop μ-loop
 array-write-each c =
-    let s = c .before .before .before .before .before .before .before .before .pre in
+    let s = c .before .before .before .before .before .before .before .before .before .pre in
     omega (arith, s .members-few)
+
+-- the loss is that of the own EUL
+loss-is : (c : tie.After-gain Inv-loop μ-loop) → c .gain .result ≡ c .before .eul-between .result ⁺
+loss-is c = let own = c .before .eul-between in rw (back-ok w64 (own .result) (own .ok)) at (c .gain .ensures)
 
 add-total : tie.Need-add-total Inv-loop μ-loop
 add-total c =
-    let s = c .before .before .before .before .before .before .before .before .pre in
-    let p = c .before .before .before .loop .inv in
-    let e = c .before .end-of .ensures in
-    omega (arith, sum-small s p (e .0) (e .1) (c .loss-between .ensures), end-le s p (e .1), s .within .few)
+    let s = c .before .before .before .before .before .before .before .before .before .pre in
+    let p = c .before .before .before .before .loop .inv in
+    let e = c .before .before .end-of .ensures in
+    omega (arith, sum-small s p _ _ _ (e .0) (e .1) (c .before .eul-between .ensures) (loss-is c), cut-inside s (e .1), s .within .few)
 
 add-i : tie.Need-add-i Inv-loop μ-loop
 add-i c = search needs
@@ -50,9 +62,9 @@ loop-less c = search needs
 
 loop-again : tie.Need-loop-again Inv-loop μ-loop
 loop-again c =
-    let s = c .before .before .before .before .before .before .before .before .pre in
-    let e = c .before .end-of .ensures in
-    loss-more s (c .before .before .before .loop .inv) (c .before .before .loop-test .taken) _ _ (e .0) (e .1) (c .loss-between .ensures)
+    let s = c .before .before .before .before .before .before .before .before .before .pre in
+    let e = c .before .before .end-of .ensures in
+    loss-more s (c .before .before .before .before .loop .inv) _ _ _ (e .0) (e .1) (c .before .eul-between .ensures) (loss-is c) (c .before .before .before .loop-test .taken)
 
 returns : tie.Need-returns Inv-loop μ-loop
 returns c = loss-all (c .before .before .before .before .before .before .pre) (c .before .loop .inv) (c .loop-test .left)
@@ -66,7 +78,8 @@ member-losses-spec =
     loop-holds
     add-end-of
     end-of-requires
-    loss-between-requires
+    eul-between-requires
+    gain-requires
     mul-each
     array-write-each
     add-total

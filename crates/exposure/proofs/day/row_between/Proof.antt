@@ -1,115 +1,60 @@
--- `row_between` meets its contract: the parts that it lends are those of `Between`.
+-- `row_between` meets its contract: the pass of `RowPass`, scenario by scenario.
 use borrow.Author.Needs.{needs}
+use Prim.Native.Nat.{_-_}
 use native.Mathlib.Omega.{arith}
-use Rattle.exposure.proofs.Between.{rows-start, rows-end, parts, row-is}
+use Rattle.exposure.proofs.RowPass.{RowPass, row-none, row-more, row-all}
 use Rattle.exposure.proofs.day.row_between.Statement.{statement}
 use Rattle.exposure.proofs.day.row_between.Tie as tie
 
-add-x : tie.Need-add-x
-add-x c = search needs
+abbrev Inv-loop : tie.InvT-loop
+Inv-loop kinds npvs margins extras k a b row₀ j₀ row j = RowPass k kinds npvs margins extras a b row j
 
-mul-x : tie.Need-mul-x
-mul-x c =
-    let p = c .before .before .before .pre in
-    omega (arith, rows-start (p .0) (p .2) (p .3), rows-end (p .0) (p .2) (p .3))
+abbrev μ-loop : tie.MeasureT-loop
+μ-loop kinds npvs margins extras k a b row₀ j₀ row j = k - j
 
-add-y : tie.Need-add-y
-add-y c = search needs
+loop-holds : tie.Need-loop-holds Inv-loop μ-loop
+loop-holds c = row-none
 
-mul-y : tie.Need-mul-y
-mul-y c =
-    let p = c .before .before .before .pre in
-    omega (arith, rows-start (p .0) (p .2) (p .3), rows-end (p .0) (p .2) (p .3))
+add-eul-between : tie.Need-add-eul-between Inv-loop μ-loop
+add-eul-between c = search needs
 
-mul-scenario-row : tie.Need-mul-scenario-row
-mul-scenario-row c = search needs
+eul-between-requires : tie.Need-eul-between-requires Inv-loop μ-loop
+eul-between-requires c κs =
+    let s = c .before .before .before .before .before in
+    (s .pre .0, s .pre .1, omega (arith, c .loop-test .taken), s .pre .2, s .pre .3)
 
-sub-scenario-row : tie.Need-sub-scenario-row
-sub-scenario-row c = search needs
+mul-row : tie.Need-mul-row Inv-loop μ-loop
+mul-row c = search needs
 
-part-scenario-row-start : tie.Need-part-scenario-row-start
-part-scenario-row-start c = search needs
+array-set-from-row : tie.Need-array-set-from-row Inv-loop μ-loop
+array-set-from-row c = search needs
 
-part-scenario-row-end : tie.Need-part-scenario-row-end
-part-scenario-row-end c = search needs
+add-j : tie.Need-add-j Inv-loop μ-loop
+add-j c = search needs
 
-mul-scenario-row-2 : tie.Need-mul-scenario-row-2
-mul-scenario-row-2 c =
-    let p = c .before .before .before .before .pre in
-    omega (arith, rows-start (p .0) (p .2) (p .3), rows-end (p .0) (p .2) (p .3))
+loop-less : tie.Need-loop-less Inv-loop μ-loop
+loop-less c = search needs
 
-sub-scenario-row-2 : tie.Need-sub-scenario-row-2
-sub-scenario-row-2 c =
-    let p = c .before .before .before .before .pre in
-    omega (arith, rows-start (p .0) (p .2) (p .3), rows-end (p .0) (p .2) (p .3))
+loop-again : tie.Need-loop-again Inv-loop μ-loop
+loop-again c =
+    let e = c .eul-between in
+    row-more (e .result) (c .before .before .before .before .before .before .pre .1) (c .before .loop-test .taken) (e .ok) (e .ensures) (c .before .before .loop .inv)
 
-part-scenario-row-start-2 : tie.Need-part-scenario-row-start-2
-part-scenario-row-start-2 c =
-    let p = c .before .before .before .before .pre in
-    omega (arith, rows-start (p .0) (p .2) (p .3), rows-end (p .0) (p .2) (p .3))
-
-part-scenario-row-end-2 : tie.Need-part-scenario-row-end-2
-part-scenario-row-end-2 c =
-    let p = c .before .before .before .before .pre in
-    omega (arith, rows-start (p .0) (p .2) (p .3), rows-end (p .0) (p .2) (p .3))
-
-mul-scenario-row-3 : tie.Need-mul-scenario-row-3
-mul-scenario-row-3 c = search needs
-
-sub-scenario-row-3 : tie.Need-sub-scenario-row-3
-sub-scenario-row-3 c = search needs
-
-part-scenario-row-start-3 : tie.Need-part-scenario-row-start-3
-part-scenario-row-start-3 c = search needs
-
-part-scenario-row-end-3 : tie.Need-part-scenario-row-end-3
-part-scenario-row-end-3 c = search needs
-
-mul-scenario-row-4 : tie.Need-mul-scenario-row-4
-mul-scenario-row-4 c = search needs
-
-sub-scenario-row-4 : tie.Need-sub-scenario-row-4
-sub-scenario-row-4 c = search needs
-
-part-scenario-row-start-4 : tie.Need-part-scenario-row-start-4
-part-scenario-row-start-4 c = search needs
-
-part-scenario-row-end-4 : tie.Need-part-scenario-row-end-4
-part-scenario-row-end-4 c = search needs
-
-scenario-row-requires : tie.Need-scenario-row-requires
-scenario-row-requires c κs =
-    let p = c .before .before .before .before .before .before .before .pre in
-    (parts (p .0) (p .2) (p .3), p .1)
-
-returns : tie.Need-returns
-returns c =
-    let p = c .before .before .before .before .before .before .before .before .pre in
-    row-is (p .0) (p .2) (p .3) _ (c .scenario-row .ensures)
+returns : tie.Need-returns Inv-loop μ-loop
+returns c = row-all (c .loop-test .left) (c .before .loop .inv)
 
 pub row-between-spec : {M : Type 1} → statement M
 row-between-spec =
     tie.close
     (tie.spec
-    add-x
-    mul-x
-    add-y
-    mul-y
-    mul-scenario-row
-    sub-scenario-row
-    part-scenario-row-start
-    part-scenario-row-end
-    mul-scenario-row-2
-    sub-scenario-row-2
-    part-scenario-row-start-2
-    part-scenario-row-end-2
-    mul-scenario-row-3
-    sub-scenario-row-3
-    part-scenario-row-start-3
-    part-scenario-row-end-3
-    mul-scenario-row-4
-    sub-scenario-row-4
-    part-scenario-row-start-4
-    part-scenario-row-end-4
-    scenario-row-requires
+    Inv-loop
+    μ-loop
+    loop-holds
+    add-eul-between
+    eul-between-requires
+    mul-row
+    array-set-from-row
+    add-j
+    loop-less
+    loop-again
     returns)

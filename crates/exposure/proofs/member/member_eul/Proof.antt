@@ -1,11 +1,11 @@
--- `member_eul` meets its contract: the pass of `Pass`, account by account.
+-- `member_eul` meets its contract: the pass of `MemberPass`, account by account.
 use borrow.Author.Needs.{needs}
 use Prim.Native.Nat.{_-_}
 use native.Mathlib.Omega.{arith}
 use lib.ListN.{length}
 use mir.Syntax.{w64}
 use Rattle.numbers.proofs.Signed.{back-ok}
-use Rattle.exposure.proofs.Pass.{Pass, pass-none, pass-small, pass-all, pass-more, room, row-npvs, owed, eul-near}
+use Rattle.exposure.proofs.MemberPass.{Pass, pass-none, pass-small, pass-all, pass-more, room, row-npvs, owed, eul-near}
 use Rattle.exposure.proofs.member.member_eul.Statement.{statement}
 use Rattle.exposure.proofs.member.member_eul.Tie as tie
 

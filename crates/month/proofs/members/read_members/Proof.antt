@@ -1,59 +1,74 @@
 -- `read_members` meets its contract: at each line, what is due of all is what is due of those that are left.
-use mathlib.Core.Path.{refl, sym, _∙_}
-use Prim.Native.Nat.{_-_}
+use mathlib.Core.Path.{refl}
+use mathlib.Core.List.{List}
+use Prim.Native.Nat.{ℕ, _-_}
+use native.Mathlib.Omega.{arith}
 use lib.ListN.{length}
 use Rattle.numbers.specs.Lists.{any}
 use Rattle.methodology.specs.Text.{bytes}
-use Rattle.month.specs.Reading.{MembersMeet}
+use Rattle.month.specs.MemberLines.{MembersMeet}
 use Rattle.month.proofs.Openings.{Left, left-start, left-bad, left-other, left-more, left-end}
 use borrow.Author.Needs.{needs}
 use Rattle.month.proofs.members.read_members.Statement.{statement}
 use Rattle.month.proofs.members.read_members.Tie as tie
 
 abbrev Inv-loop : tie.InvT-loop
-Inv-loop text p n groups₀ at₀ j₀ t11 groups at j = Left text p n (length groups₀) groups at j
+Inv-loop text p n groups₀ at₀ j₀ t9 groups at j = Left text p n (length groups₀) groups at j
 
 abbrev μ-loop : tie.MeasureT-loop
-μ-loop text p n groups₀ at₀ j₀ t11 groups at j = n - j
+μ-loop text p n groups₀ at₀ j₀ t9 groups at j = n - j
+
+-- the numbers of the line, where it was read
+abbrev row : tie.After-numbers-at Inv-loop μ-loop → List ℕ
+row l = l .numbers-at .last .1 .1 .1 .0
 
 loop-holds : tie.Need-loop-holds Inv-loop μ-loop
 loop-holds c = let s = c .before .before in left-start _ _ _ _ (s .pre .1 .1) _ refl (s .pre .1 .0) (s .pre .0)
 
-slice-aggregate-pair-at : tie.Need-slice-aggregate-pair-at Inv-loop μ-loop
-slice-aggregate-pair-at c = search needs
+slice-aggregate-numbers-at : tie.Need-slice-aggregate-numbers-at Inv-loop μ-loop
+slice-aggregate-numbers-at c = search needs
 
-pair-at-requires : tie.Need-pair-at-requires Inv-loop μ-loop
+slice-aggregate-numbers-at-2 : tie.Need-slice-aggregate-numbers-at-2 Inv-loop μ-loop
+slice-aggregate-numbers-at-2 c = search needs
+
+numbers-at-requires : tie.Need-numbers-at-requires Inv-loop μ-loop
 unfolding any
-pair-at-requires c κs = (c .before .before .loop .inv .inside, refl)
-
-enum-known-pair : tie.Need-enum-known-pair Inv-loop μ-loop
-enum-known-pair c = search needs
-
-enum-told : tie.Need-enum-told Inv-loop μ-loop
-enum-told c = search needs
+numbers-at-requires c κs = (c .before .before .before .loop .inv .inside, (refl, (omega arith, omega arith)))
 
 same-length : tie.Need-same-length Inv-loop μ-loop
-same-length c = search needs
+same-length c = c .before .before .before .before .before .before .loop .inv .room
 
 returns : tie.Need-returns Inv-loop μ-loop
 unfolding MembersMeet bytes
-returns c = let s = c .before .before .before .before .before .before .before .before in let l = c .before .before .before .before .before .loop .inv in let h = c .before .before .before .before .loop-test .taken in (h, left-bad _ _ _ _ (s .pre .1 .1) _ _ _ l h (sym (c .before .before .pair-at .ensures) ∙ c .enum-told .given .1))
+returns c =
+    let a = c .before .before in
+    let h = c .before .before .before .before .before .loop-test .taken in
+    (h, left-bad _ _ _ _ (c .before .before .before .before .before .before .before .before .before .pre .1 .1) _ _ _ (c .before .before .before .before .before .before .loop .inv) h (row a) _ (a .numbers-at .ensures .0) (c .if1 .taken))
 
-add-if1 : tie.Need-add-if1 Inv-loop μ-loop
-add-if1 c = search needs
+array-read-if2 : tie.Need-array-read-if2 Inv-loop μ-loop
+array-read-if2 c = search needs
+
+add-if2 : tie.Need-add-if2 Inv-loop μ-loop
+add-if2 c = search needs
 
 same-length-2 : tie.Need-same-length-2 Inv-loop μ-loop
-same-length-2 c = search needs
+same-length-2 c = c .before .before .before .before .before .before .before .loop .inv .room
 
 returns-2 : tie.Need-returns-2 Inv-loop μ-loop
 unfolding MembersMeet bytes
-returns-2 c = let s = c .before .before .before .before .before .before .before .before .before .before in let l = c .before .before .before .before .before .before .before .loop .inv in let h = c .before .before .before .before .before .before .loop-test .taken in (h, left-other _ _ _ _ (s .pre .1 .1) _ _ _ l h _ _ _ (sym (c .before .before .before .before .pair-at .ensures) ∙ c .before .before .pair .given .1) (c .if1 .taken))
+returns-2 c =
+    let a = c .before .before .before in
+    let h = c .before .before .before .before .before .before .loop-test .taken in
+    (h, left-other _ _ _ _ (c .before .before .before .before .before .before .before .before .before .before .pre .1 .1) _ _ _ (c .before .before .before .before .before .before .before .loop .inv) h (row a) _ (a .numbers-at .ensures .0) (c .before .if1 .left) (c .if2 .taken))
+
+array-read-groups : tie.Need-array-read-groups Inv-loop μ-loop
+array-read-groups c = search needs
 
 mul-groups : tie.Need-mul-groups Inv-loop μ-loop
 mul-groups c = search needs
 
 slice-write-groups : tie.Need-slice-write-groups Inv-loop μ-loop
-slice-write-groups c = search needs
+slice-write-groups c = omega (arith, c .before .before .before .before .before .before .before .loop .inv .room, c .before .before .before .before .before .before .before .before .before .before .pre .1)
 
 add-j : tie.Need-add-j Inv-loop μ-loop
 add-j c = search needs
@@ -63,14 +78,18 @@ loop-less c = search needs
 
 loop-again : tie.Need-loop-again Inv-loop μ-loop
 unfolding bytes
-loop-again c = let s = c .before .before .before .before .before .before .before .before .before .before in let l = c .before .before .before .before .before .before .before .loop .inv in let h = c .before .before .before .before .before .before .loop-test .taken in left-more _ _ _ _ (s .pre .1 .1) _ _ _ l h _ _ _ (sym (c .before .before .before .before .pair-at .ensures) ∙ c .before .before .pair .given .1) (c .if1 .left)
+loop-again c =
+    let a = c .before .before .before in
+    left-more _ _ _ _ (c .before .before .before .before .before .before .before .before .before .before .pre .1 .1) _ _ _ (c .before .before .before .before .before .before .before .loop .inv) (c .before .before .before .before .before .before .loop-test .taken) (row a) _ (a .numbers-at .ensures .0) (c .before .if1 .left) (c .if2 .left) (a .numbers-at .ensures .1 .0)
 
 same-length-3 : tie.Need-same-length-3 Inv-loop μ-loop
-same-length-3 c = search needs
+same-length-3 c = c .before .loop .inv .room
 
 returns-3 : tie.Need-returns-3 Inv-loop μ-loop
 unfolding MembersMeet bytes
-returns-3 c = let s = c .before .before .before .before in let l = c .before .loop .inv in (search needs, l .inside, left-end _ _ _ _ (s .pre .1 .1) _ _ _ l (c .loop-test .left))
+returns-3 c =
+    let l = c .before .loop .inv in
+    (omega (arith, l .passed, l .few), l .inside, left-end _ _ _ _ (c .before .before .before .before .pre .1 .1) _ _ _ l (c .loop-test .left))
 
 pub read-members-spec : {M : Type 1} → statement M
 read-members-spec =
@@ -79,15 +98,16 @@ read-members-spec =
     Inv-loop
     μ-loop
     loop-holds
-    slice-aggregate-pair-at
-    pair-at-requires
-    enum-known-pair
-    enum-told
+    slice-aggregate-numbers-at
+    slice-aggregate-numbers-at-2
+    numbers-at-requires
     same-length
     returns
-    add-if1
+    array-read-if2
+    add-if2
     same-length-2
     returns-2
+    array-read-groups
     mul-groups
     slice-write-groups
     add-j

@@ -10,7 +10,7 @@ use Rattle.validation.specs.Slices.{plainDay}
 use Rattle.period.specs.Plain.{Even}
 use Rattle.period.specs.Rows.{Passes, BeforeTotal}
 use Rattle.period.proofs.DayRows.{row-7, none}
-use Rattle.period.proofs.Sizing.{in-range, members-few, room-long, sizable, groups-fit, sums-fit, total-is, part, shares, top-is, top-part, written, day-refused, day-refused-at, day-accepted}
+use Rattle.period.proofs.Sizing.{in-range, members-few, room-long, sizable, groups-fit, sums-fit, total-is, part, shares, top-is, top-few, written, day-refused, day-refused-at, day-accepted}
 use Rattle.period.proofs.Period.plain_day.Statement.{statement}
 use Rattle.period.proofs.Period.plain_day.Tie as tie
 
@@ -54,22 +54,15 @@ write-dailies-requires c κs =
     let m = c .before .before .before .before .before in
     let e = even (m .before) in
     let s = passes (m .before) in
-    ((members-few s, room-long s), (part e s _ (m .member-losses .ensures) (c .before .before .before .before .if1 .left), top-part e s _ (m .member-losses .ensures) _ (c .before .before .max-eul .ensures)))
+    ((members-few s, room-long s), (part e s _ (m .member-losses .ensures) (c .before .before .before .before .if1 .left), top-few e s _ (m .member-losses .ensures) _ (c .before .before .max-eul .ensures)))
 
-with-shares-requires : tie.Need-with-shares-requires
-with-shares-requires c κs =
-    let m = c .before .before .before .before .before .before .before .before .before in
+with-day-requires : tie.Need-with-day-requires
+with-day-requires c κs =
+    let m = c .before .before .before .before .before .before .before .before in
     let e = even (m .before) in
     let s = passes (m .before) in
-    (members-few s, (part e s _ (m .member-losses .ensures) (c .before .before .before .before .before .before .before .before .if1 .left), sums-fit s))
-
-greater-requires : tie.Need-greater-requires
-greater-requires c κs = search needs
-
-add-days : tie.Need-add-days
-add-days c =
-    let r = in-range (passes (c .before .before .before .before .before .before .before .before .before .before .before .before .before)) in
-    omega (arith, r .counted, r .month)
+    let r = in-range s in
+    ((members-few s, omega (arith, r .counted, r .month)), (part e s _ (m .member-losses .ensures) (c .before .before .before .before .before .before .before .if1 .left), sums-fit s))
 
 enum-known-row : tie.Need-enum-known-row
 enum-known-row c = search needs
@@ -82,12 +75,12 @@ same-length c = search needs
 
 returns-2 : tie.Need-returns-2
 returns-2 c =
-    let m = c .before .before .before .before .before .before .before .before .before .before .before .before .before in
+    let m = c .before .before .before .before .before .before .before .before .before in
     let e = even (m .before) in
     let s = passes (m .before) in
     let f = m .member-losses .ensures in
-    let x = c .before .before .before .before .before .before .before .before .before .before .max-eul .ensures in
-    day-accepted _ _ _ (none s (λ z. c .before .before .before .before .before .before .before .before .before .before .before .before .if1 .left (total-is e s _ f ∙ z))) _ _ _ _ _ (total-is e s _ f) (top-is e s _ f _ x) (c .before .before .greater .ensures) (c .before .before .before .with-shares .ensures ∙ shares e s _ f) (c .before .before .before .before .before .before .before .write-dailies .ensures ∙ written e s _ f _ x)
+    let x = c .before .before .before .before .before .before .max-eul .ensures in
+    day-accepted _ _ _ (none s (λ z. c .before .before .before .before .before .before .before .before .if1 .left (total-is e s _ f ∙ z))) _ _ (m .member-losses .result .each) _ _ (total-is e s _ f) (top-is e s _ f _ x) (shares e s _ f) (c .with-day .ensures) (c .before .before .before .write-dailies .ensures ∙ written e s _ f _ x)
 
 returns-3 : tie.Need-returns-3
 returns-3 c = day-refused _ _ _ _ (told (c .before .before .before) (Row _) (c .before .row .given .1))
@@ -105,9 +98,7 @@ plain-day-spec =
     returns
     max-eul-requires
     write-dailies-requires
-    with-shares-requires
-    greater-requires
-    add-days
+    with-day-requires
     enum-known-row
     enum-known-row-2
     same-length

@@ -1,0 +1,152 @@
+-- What a call says is what the report has of it, for a period that follows its register, and whatever the report goes on with.
+-- By the outcome: it tells the row of the refusal table, and that tells what `opened`, `sized` and `closed` print.
+use mathlib.Core.Path.{_≡_, refl, sym, ap, subst, _∙_}
+use mathlib.Core.Bool.{false, true≢false, cond}
+use mathlib.Core.List.{List, [], _∷_, _++_, append-nil}
+use Prim.Native.Nat.{ℕ, _+_, _*_}
+use lib.ListN.{length}
+use Rattle.methodology.specs.declared.Refusal.the-variants.{Clear}
+use Rattle.methodology.specs.Account.{Opening, DayInput}
+use Rattle.methodology.specs.Register.{Call, Register, start, refusal, accept, step, returned, written, answerBy, answer, buffer}
+use Rattle.methodology.specs.Text.{bytes, printed, refusedLine, rows, dayLines, fundLines, Expected, day, opened as Text·opened, sized as Text·sized, closed as Text·closed, followedBy}
+use Rattle.period.specs.declared.Outcome.{Outcome}
+use Rattle.period.specs.declared.Outcome.the-variants.{Closed}
+use Rattle.period.specs.declared.Period.{Period}
+use Rattle.period.specs.declared.Reply.{Reply}
+use Rattle.period.specs.Reading.{brought, answerOf}
+use Rattle.period.specs.Calls.{freshPeriod, OpeningMeets, DayMeets, ClosingMeets}
+use Rattle.period.specs.Follows.{Follows}
+use Rattle.period.proofs.Simulation.{starts, opening-follows, day-follows, closing-follows}
+use Rattle.answers.specs.Held.{Held}
+use Rattle.answers.specs.Said.{said, isOver}
+use Rattle.answers.proofs.Rows.{is-clear, is-row, is-row-at, step-clear}
+use Rattle.answers.proofs.Outcomes.{OfOpening, opened, unopened, opening-outcome, OfDay, sized, unsized, unsized-at, day-outcome, OfClosing, closed, unclosed, closing-outcome}
+
+-- ---- the opening
+
+module _ (n k : ℕ) (groups : List ℕ) (r : Reply) (m : OpeningMeets freshPeriod (brought n k groups) r) where
+  abbrev first : Call
+  first = Call.opening (brought n k groups)
+
+  first-told : {o : Outcome} → r .outcome ≡ o → answerBy (refusal start first) (returned (step start first) first) ≡ answerOf o
+  unfolding answer
+  first-told e = sym (opening-follows starts m .1) ∙ ap answerOf e
+
+  pub opening-said : (rest : Expected → List ℕ) → followedBy (Text·opened (refusal start first) (brought n k groups)) rest
+      ≡ said (r .outcome) 0 1 0 [] ++ cond (isOver (r .outcome)) [] (rest (day (step start first)))
+  unfolding Text·opened followedBy said isOver
+  opening-said rest = by (r .outcome) refl (opening-outcome m)
+    where
+      by : (o : Outcome) → r .outcome ≡ o → OfOpening o
+          → followedBy (Text·opened (refusal start first) (brought n k groups)) rest ≡ said o 0 1 0 [] ++ cond (isOver o) [] (rest (day (step start first)))
+      by o e opened = rw (is-clear (refusal start first) _ _ (first-told e) .0)
+      by o e (unopened row) = rw (is-row (refusal start first) _ _ (first-told e)) (sym (append-nil (refusedLine row 1)))
+
+  pub opening-held : isOver (r .outcome) ≡ false → Held (step start first) (r .period) n k
+  unfolding accept isOver
+  opening-held = by (r .outcome) refl (opening-outcome m)
+    where
+      by : (o : Outcome) → r .outcome ≡ o → OfOpening o → isOver o ≡ false → Held (step start first) (r .period) n k
+      by o e opened t =
+          let h : step start first .held ≡ brought n k groups = ap (λ (g : Register). g .held) (step-clear start first (is-clear (refusal start first) _ _ (first-told e) .0)) in
+          record { follows = opening-follows starts m .0; members = ap (λ (o : Opening). o .n) h; scenarios = ap (λ (o : Opening). o .k) h }
+      by o e (unopened row) t = absurd (true≢false t)
+
+-- ---- a day
+
+day-kept : (g : Register) (d : DayInput) (room : ℕ) → accept g (Call.day d room) .held ≡ g .held
+unfolding accept
+day-kept g d room = refl
+
+module _ (n k : ℕ) (g : Register) (period : Period) (h : Held g period n k) (d : DayInput) (line : ℕ)
+    (before : List ℕ) (r : Reply) (figures : List ℕ) (m : DayMeets period d before r figures) (room : length before ≡ 5 * n) where
+  abbrev call : Call
+  call = Call.day d (5 * g .held .n)
+
+  room-is : length before ≡ 5 * g .held .n
+  room-is = room ∙ ap (λ (x : ℕ). 5 * x) (sym (h .members))
+
+  follows : Follows (step g call) (r .period) × (answerOf (r .outcome) ≡ answer g call) × (figures ≡ buffer g call before)
+  follows = subst (λ (x : ℕ). Follows (step g (Call.day d x)) (r .period) × (answerOf (r .outcome) ≡ answer g (Call.day d x)) × (figures ≡ buffer g (Call.day d x) before)) room-is (day-follows (h .follows) m)
+
+  told : {o : Outcome} → r .outcome ≡ o → answerBy (refusal g call) (returned (step g call) call) ≡ answerOf o
+  unfolding answer
+  told e = sym (follows .1) ∙ ap answerOf e
+
+  -- where the table lets it pass
+  module _ (c : refusal g call ≡ Clear) where
+    held-is : step g call .held ≡ g .held
+    held-is = ap (λ (x : Register). x .held) (step-clear g call c) ∙ day-kept g d (5 * g .held .n)
+
+    still-held : Held (step g call) (r .period) n k
+    still-held = record { follows = follows .0; members = ap (λ (o : Opening). o .n) held-is ∙ h .members; scenarios = ap (λ (o : Opening). o .k) held-is ∙ h .scenarios }
+
+    written-is : figures ≡ written (step g call) call
+    unfolding buffer
+    written-is = follows .2 ∙ rw c
+
+    lines-are : (total max : ℕ) → returned (step g call) call ≡ total ∷ max ∷ []
+        → dayLines (step g call) d (5 * g .held .n) ≡ printed (bytes "day") (d .number ∷ total ∷ max ∷ []) ++ rows (bytes "daily") 5 n figures
+    unfolding dayLines
+    lines-are total max e =
+        rw (e, ← written-is) (ap (λ (x : ℕ). printed (bytes "day") (d .number ∷ total ∷ max ∷ []) ++ rows (bytes "daily") 5 x figures) (still-held .members))
+
+  pub day-said : (rest : Expected → List ℕ) → followedBy (Text·sized (refusal g call) g d line) rest
+      ≡ said (r .outcome) (d .number) line n figures ++ cond (isOver (r .outcome)) [] (rest (day (step g call)))
+  unfolding Text·sized followedBy said isOver
+  day-said rest = by (r .outcome) refl (day-outcome m)
+    where
+      by : (o : Outcome) → r .outcome ≡ o → OfDay (length (d .headings)) o
+          → followedBy (Text·sized (refusal g call) g d line) rest ≡ said o (d .number) line n figures ++ cond (isOver o) [] (rest (day (step g call)))
+      by o e (sized total max) =
+          let (c, f) = is-clear (refusal g call) _ _ (told e) in
+          rw c (ap (λ (l : List ℕ). l ++ rest (day (step g call))) (lines-are c total max f))
+      by o e (unsized row) = rw (is-row (refusal g call) _ _ (told e)) (sym (append-nil (refusedLine row line)))
+      by o e (unsized-at row index few) = rw (is-row-at (refusal g call) _ _ _ (told e)) (sym (append-nil (refusedLine row (line + 1 + index))))
+
+  pub day-held : isOver (r .outcome) ≡ false → Held (step g call) (r .period) n k
+  unfolding isOver
+  day-held = by (r .outcome) refl (day-outcome m)
+    where
+      by : (o : Outcome) → r .outcome ≡ o → OfDay (length (d .headings)) o → isOver o ≡ false → Held (step g call) (r .period) n k
+      by o e (sized total max) t = still-held (is-clear (refusal g call) _ _ (told e) .0)
+      by o e (unsized row) t = absurd (true≢false t)
+      by o e (unsized-at row index few) t = absurd (true≢false t)
+
+-- ---- the closing
+
+closing-kept : (g : Register) (room : ℕ) → accept g (Call.closing room) .held ≡ g .held
+unfolding accept
+closing-kept g room = refl
+
+module _ (n k : ℕ) (g : Register) (period : Period) (h : Held g period n k) (line : ℕ)
+    (before : List ℕ) (r : Reply) (figures : List ℕ) (m : ClosingMeets period before r figures) (room : length before ≡ 3 * n) where
+  abbrev last : Call
+  last = Call.closing (3 * g .held .n)
+
+  last-room : length before ≡ 3 * g .held .n
+  last-room = room ∙ ap (λ (x : ℕ). 3 * x) (sym (h .members))
+
+  last-follows : (answerOf (r .outcome) ≡ answer g last) × (figures ≡ buffer g last before)
+  last-follows = subst (λ (x : ℕ). (answerOf (r .outcome) ≡ answer g (Call.closing x)) × (figures ≡ buffer g (Call.closing x) before)) last-room (closing-follows (h .follows) m .1, closing-follows (h .follows) m .2)
+
+  last-told : {o : Outcome} → r .outcome ≡ o → answerBy (refusal g last) (returned (step g last) last) ≡ answerOf o
+  unfolding answer
+  last-told e = sym (last-follows .0) ∙ ap answerOf e
+
+  fund-is : (days highest funds : ℕ) → r .outcome ≡ Closed days highest funds
+      → Text·closed (refusal g last) g line ≡ printed (bytes "fund") (days ∷ highest ∷ funds ∷ []) ++ rows (bytes "contribution") 3 n figures
+  unfolding Text·closed fundLines buffer
+  fund-is days highest funds e =
+      let (c, f) = is-clear (refusal g last) _ _ (last-told e) in
+      let members : step g last .held .n ≡ n = ap (λ (x : Register). x .held .n) (step-clear g last c) ∙ ap (λ (o : Opening). o .n) (closing-kept g (3 * g .held .n)) ∙ h .members in
+      let w : figures ≡ written (step g last) last = last-follows .1 ∙ rw c in
+      rw (c, f, ← w) (ap (λ (x : ℕ). printed (bytes "fund") (days ∷ highest ∷ funds ∷ []) ++ rows (bytes "contribution") 3 x figures) members)
+
+  pub closing-said : Text·closed (refusal g last) g line ≡ said (r .outcome) 0 line n figures
+  unfolding Text·closed said
+  closing-said = by (r .outcome) refl (closing-outcome m)
+    where
+      by : (o : Outcome) → r .outcome ≡ o → OfClosing o → Text·closed (refusal g last) g line ≡ said o 0 line n figures
+      by o e (closed days highest funds) = fund-is days highest funds e
+      by o e (unclosed row) = rw (is-row (refusal g last) _ _ (last-told e))

@@ -1,0 +1,151 @@
+-- Which outcomes each call can have. Its answer has as many figures as the call returns, and rows 5 and 6 of a day alone give an index.
+use mathlib.Core.Path.{_≡_, refl, sym, ap}
+use mathlib.Core.Bool.{Bool, true, false, not, _||_, cond}
+use mathlib.Core.List.{List, [], _∷_}
+use Prim.Native.Nat.{ℕ, _+_, _*_, _≤_}
+use native.Mathlib.Omega.{arith}
+use lib.Dec.{eqb, ltb}
+use lib.ListN.{length}
+use borrow.Author.Tests.{ltb-true}
+use Rattle.numbers.specs.Lists.{firstWhere}
+use Rattle.methodology.specs.declared.Refusal.{Refusal}
+use Rattle.methodology.specs.declared.Refusal.the-variants.{Clear, Row, RowAt}
+use Rattle.methodology.specs.declared.Status.{Status}
+use Rattle.methodology.specs.Account.{Opening, DayInput, accounts, nobody}
+use Rattle.methodology.specs.Day.{total}
+use Rattle.methodology.specs.Refusals.{row_when_else_, row_at_when_else_, isOpen, badOpening, badLengths, badDayNumber, firstBadHeading, lastMissing, badAmount, openingRefusal, dayRefusal, closingRefusal}
+use Rattle.methodology.specs.Register.{accepted, answerBy}
+use Rattle.validation.proofs.Headings.{bad-heading-le}
+use Rattle.period.specs.declared.Outcome.{Outcome}
+use Rattle.period.specs.declared.Outcome.the-variants.{Opened, Sized, Closed, Refused, RefusedAt}
+use Rattle.period.specs.declared.Period.{Period}
+use Rattle.period.specs.declared.Reply.{Reply}
+use Rattle.period.specs.Reading.{answerOf}
+use Rattle.period.specs.Calls.{held, statusOf, openingRow, OpeningMeets, dayRow, DayMeets, closingRow, ClosingMeets}
+use Rattle.answers.specs.Said.{widthSaid, lineSaid}
+use Rattle.answers.proofs.Rows.{is-clear, is-row-at}
+
+-- an accepted call has as many figures as it returns
+same-count : (x : Refusal) (xs ys : List ℕ) → accepted ys ≡ answerBy x xs → length xs ≡ length ys
+same-count x xs ys e = ap length (is-clear x xs ys (sym e) .1)
+
+-- ---- an opening
+
+pub data OfOpening : Outcome → Type 0 where
+  opened : OfOpening Opened
+  unopened : (number : ℕ) → OfOpening (Refused number)
+
+opening-no-index : (s : Status) (o : Opening) (number index : ℕ) → openingRefusal s o ≡ RowAt number index → ⊥
+unfolding openingRefusal row_when_else_
+opening-no-index s o number index e = by (isOpen s) (badOpening o) e
+  where
+    by : (b2 b1 : Bool) → cond b2 (Row 2) (cond b1 (Row 1) Clear) ≡ RowAt number index → ⊥
+    by true b1 e = let z : _≡_ {A = ℕ} 0 1 = cc in omega arith
+    by false true e = let z : _≡_ {A = ℕ} 0 1 = cc in omega arith
+    by false false e = let z : _≡_ {A = ℕ} 0 1 = cc in omega arith
+
+pub opening-outcome : {p : Period} {o : Opening} {r : Reply} → OpeningMeets p o r → OfOpening (r .outcome)
+unfolding openingRow
+opening-outcome {p} {o} {r} m = by (r .outcome) (m .answer)
+  where
+    by : (x : Outcome) → answerOf x ≡ answerBy (openingRow p o) [] → OfOpening x
+    by Opened e = opened
+    by (Refused number) e = unopened number
+    by (Sized total max) e = absurd (let z : 0 ≡ 2 = same-count (openingRow p o) [] (total ∷ max ∷ []) e in omega arith)
+    by (Closed days highest funds) e = absurd (let z : 0 ≡ 3 = same-count (openingRow p o) [] (days ∷ highest ∷ funds ∷ []) e in omega arith)
+    by (RefusedAt number index) e = absurd (opening-no-index (statusOf p) o number index (is-row-at _ _ _ _ (sym e)))
+
+pub opening-line : {o : Outcome} (line : ℕ) → OfOpening o → lineSaid o line ≡ line
+unfolding lineSaid
+opening-line line opened = omega arith
+opening-line line (unopened number) = omega arith
+
+-- ---- a day
+
+pub data OfDay (count : ℕ) : Outcome → Type 0 where
+  sized : (total max : ℕ) → OfDay count (Sized total max)
+  unsized : (number : ℕ) → OfDay count (Refused number)
+  unsized-at : (number index : ℕ) → index ≤ count → OfDay count (RefusedAt number index)
+
+index-le : (s : Status) (o : Opening) (last : ℕ) (d : DayInput) (room number index : ℕ) → dayRefusal s o last d room ≡ RowAt number index → index ≤ length (d .headings)
+unfolding dayRefusal row_when_else_ row_at_when_else_
+index-le s o last d room number index e = by (not (isOpen s)) (badLengths o d room) (badDayNumber last (d .number)) (ltb bad5 count || lastMissing (o .n) (d .headings)) (ltb bad6 count) refl (eqb (total o (accounts (o .k) d)) 0) e
+  where
+    count : ℕ
+    count = length (d .headings)
+
+    bad5 : ℕ
+    bad5 = firstBadHeading (o .n) nobody (d .headings)
+
+    bad6 : ℕ
+    bad6 = firstWhere badAmount (accounts (o .k) d)
+
+    by : (b2 b4 b3 b5 b6 : Bool) → ltb bad6 count ≡ b6 → (b7 : Bool)
+        → cond b2 (Row 2) (cond b4 (Row 4) (cond b3 (Row 3) (cond b5 (RowAt 5 bad5) (cond b6 (RowAt 6 bad6) (cond b7 (Row 7) Clear))))) ≡ RowAt number index → index ≤ count
+    by true b4 b3 b5 b6 q b7 e = absurd (let z : _≡_ {A = ℕ} 0 1 = cc in omega arith)
+    by false true b3 b5 b6 q b7 e = absurd (let z : _≡_ {A = ℕ} 0 1 = cc in omega arith)
+    by false false true b5 b6 q b7 e = absurd (let z : _≡_ {A = ℕ} 0 1 = cc in omega arith)
+    by false false false true b6 q b7 e = let z : bad5 ≡ index = cc in let k : bad5 ≤ count = bad-heading-le (o .n) nobody (d .headings) in omega arith
+    by false false false false true q b7 e = let z : bad6 ≡ index = cc in let k = ltb-true bad6 count q in omega arith
+    by false false false false false q true e = absurd (let z : _≡_ {A = ℕ} 0 1 = cc in omega arith)
+    by false false false false false q false e = absurd (let z : _≡_ {A = ℕ} 0 1 = cc in omega arith)
+
+pub day-outcome : {p : Period} {d : DayInput} {before after : List ℕ} {r : Reply} → DayMeets p d before r after → OfDay (length (d .headings)) (r .outcome)
+unfolding dayRow
+day-outcome {p} {d} {before} {r = r} m = by (r .outcome) _ _ (m .answer)
+  where
+    by : (x : Outcome) (a b : ℕ) → answerOf x ≡ answerBy (dayRow p d (length before)) (a ∷ b ∷ []) → OfDay (length (d .headings)) x
+    by (Sized total max) a b e = sized total max
+    by (Refused number) a b e = unsized number
+    by (RefusedAt number index) a b e = unsized-at number index (index-le (statusOf p) (held p) (p .last) d (length before) number index (is-row-at _ _ _ _ (sym e)))
+    by Opened a b e = absurd (let z : 2 ≡ 0 = same-count (dayRow p d (length before)) (a ∷ b ∷ []) [] e in omega arith)
+    by (Closed days highest funds) a b e = absurd (let z : 2 ≡ 3 = same-count (dayRow p d (length before)) (a ∷ b ∷ []) (days ∷ highest ∷ funds ∷ []) e in omega arith)
+
+pub day-line : {o : Outcome} (count line : ℕ) → OfDay count o → lineSaid o line ≤ line + 1 + count
+unfolding lineSaid
+day-line count line (sized total max) = omega arith
+day-line count line (unsized number) = omega arith
+day-line count line (unsized-at number index h) = omega arith
+
+pub day-width : {o : Outcome} (count n : ℕ) → OfDay count o → widthSaid o * n ≤ 5 * n
+unfolding widthSaid
+day-width count n (sized total max) = omega arith
+day-width count n (unsized number) = omega arith
+day-width count n (unsized-at number index h) = omega arith
+
+-- ---- a closing
+
+pub data OfClosing : Outcome → Type 0 where
+  closed : (days highest funds : ℕ) → OfClosing (Closed days highest funds)
+  unclosed : (number : ℕ) → OfClosing (Refused number)
+
+closing-no-index : (s : Status) (o : Opening) (D room number index : ℕ) → closingRefusal s o D room ≡ RowAt number index → ⊥
+unfolding closingRefusal row_when_else_
+closing-no-index s o D room number index e = by (not (isOpen s)) (eqb D 0) (not (eqb room (3 * o .n))) e
+  where
+    by : (b2 b8 b4 : Bool) → cond b2 (Row 2) (cond b8 (Row 8) (cond b4 (Row 4) Clear)) ≡ RowAt number index → ⊥
+    by true b8 b4 e = let z : _≡_ {A = ℕ} 0 1 = cc in omega arith
+    by false true b4 e = let z : _≡_ {A = ℕ} 0 1 = cc in omega arith
+    by false false true e = let z : _≡_ {A = ℕ} 0 1 = cc in omega arith
+    by false false false e = let z : _≡_ {A = ℕ} 0 1 = cc in omega arith
+
+pub closing-outcome : {p : Period} {before after : List ℕ} {r : Reply} → ClosingMeets p before r after → OfClosing (r .outcome)
+unfolding closingRow
+closing-outcome {p} {before} {r = r} m = by (r .outcome) _ _ _ (m .answer)
+  where
+    by : (x : Outcome) (a b c : ℕ) → answerOf x ≡ answerBy (closingRow p (length before)) (a ∷ b ∷ c ∷ []) → OfClosing x
+    by (Closed days highest funds) a b c e = closed days highest funds
+    by (Refused number) a b c e = unclosed number
+    by Opened a b c e = absurd (let z : 3 ≡ 0 = same-count (closingRow p (length before)) (a ∷ b ∷ c ∷ []) [] e in omega arith)
+    by (Sized total max) a b c e = absurd (let z : 3 ≡ 2 = same-count (closingRow p (length before)) (a ∷ b ∷ c ∷ []) (total ∷ max ∷ []) e in omega arith)
+    by (RefusedAt number index) a b c e = absurd (closing-no-index (statusOf p) (held p) (p .days) (length before) number index (is-row-at _ _ _ _ (sym e)))
+
+pub closing-line : {o : Outcome} (line : ℕ) → OfClosing o → lineSaid o line ≡ line
+unfolding lineSaid
+closing-line line (closed days highest funds) = omega arith
+closing-line line (unclosed number) = omega arith
+
+pub closing-width : {o : Outcome} (n : ℕ) → OfClosing o → widthSaid o * n ≤ 3 * n
+unfolding widthSaid
+closing-width n (closed days highest funds) = omega arith
+closing-width n (unclosed number) = omega arith

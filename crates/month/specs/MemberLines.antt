@@ -1,0 +1,24 @@
+-- The member lines of a text: the report where the first of them is due, and what reading them comes to.
+use mathlib.Core.List.{List, []}
+use mathlib.Core.Path.{_≡_}
+use Prim.Native.Nat.{ℕ, _+_, _≤_, _<_}
+use lib.ListN.{length, take, drop}
+use Rattle.methodology.specs.Account.{Opening}
+use Rattle.methodology.specs.Register.{Call, start, refusal}
+use Rattle.methodology.specs.Text.{LF, split, refusedLine, member, opened, followedBy, reportFrom}
+use Rattle.period.specs.Reading.{brought}
+use Rattle.accounts.specs.declared.Lines.{Lines}
+use Rattle.accounts.specs.declared.Lines.the-variants.{Read, Stopped}
+
+-- the report from index p on, where the first of n member lines is due
+abbrev pub membersDue : (text : List ℕ) → (p n k : ℕ) → List ℕ
+membersDue text p n k = reportFrom 2 (split LF (drop p text)) (member (brought n k []))
+
+-- the report where all were read and the next line stands at index p: the opening call is made
+abbrev pub openingDue : (text : List ℕ) → (p : ℕ) → Opening → List ℕ
+openingDue text p o = followedBy (opened (refusal start (Call.opening o)) o) (reportFrom (2 + o .n) (split LF (drop p text)))
+
+unfoldable pub MembersMeet : (text : List ℕ) → (p n : ℕ) → (groups : List ℕ) → Lines → Type 0
+MembersMeet text p n groups (Read next) =
+    (p + n ≤ next) × (next ≤ length text) × ((k : ℕ) → membersDue text p n k ≡ openingDue text next (brought n k (take n groups)))
+MembersMeet text p n groups (Stopped j) = (j < n) × ((k : ℕ) → membersDue text p n k ≡ refusedLine 9 (2 + j))
