@@ -6,12 +6,12 @@ use Prim.Native.Nat.{ℕ, suc, _+_, _-_, _*_, min}
 use lib.IntN.{ℤ, pos}
 use lib.ListN.{length, getD}
 use Rattle.numbers.specs.Fractions.{Fraction, _over_}
-use Rattle.methodology.specs.Account.{Opening, DayInput, members, accounts, kindH, kindR, kindA, kindU}
+use Rattle.methodology.specs.Account.{Opening, DayInput, members, accounts}
 use Rattle.methodology.specs.Member.{memberUnder, memberOwn}
 use Rattle.methodology.specs.Day.{total, maxEul, dailies}
 use Rattle.methodology.specs.Contribution.{exactCharge, allowance, shortfall}
 use Rattle.methodology.specs.Register.{Register, start, opening, day, closing, step, buffer}
-use Rattle.methodology.proofs.Samples.{computed, Line, acct, minus, losing, dayOf}
+use Rattle.methodology.proofs.Samples.{computed, H, R, A, U, Line, acct, minus, losing, dayOf}
 
 -- a case: the figures that the definitions give, and those that document 01 has
 pub record Case : Type 0 where
@@ -30,7 +30,7 @@ got is-signed due = record { got = got; due = due }
 -- house accounts with the given EULs, of members from the first on
 abbrev houses : (first : ℕ) → List ℤ → List Line
 houses first [] = []
-houses first (e ∷ es) = losing first 0 kindH e ∷ houses (suc first) es
+houses first (e ∷ es) = losing first 0 H e ∷ houses (suc first) es
 
 -- client accounts of member 1, by kind and EUL, numbered from the first on
 abbrev clients : (first : ℕ) → List (ℕ × ℤ) → List Line
@@ -45,12 +45,12 @@ groups gs = record { n = length gs; k = 1; groups = gs }
 abbrev illustrative : (margin : ℕ) → DayInput
 illustrative margin =
     dayOf 1
-    (acct 1 0 kindH (pos 1000) margin 0 (pos 0 ∷ [])
-    ∷ acct 2 0 kindH (pos 300) 100 0 (pos 0 ∷ [])
-    ∷ acct 3 0 kindH (pos 500) 250 0 (pos 0 ∷ [])
-    ∷ acct 4 0 kindH (pos 800) 300 0 (pos 0 ∷ [])
-    ∷ acct 5 0 kindH (pos 600) 400 0 (pos 0 ∷ [])
-    ∷ acct 6 0 kindH (pos 400) 200 0 (pos 0 ∷ [])
+    (acct 1 0 H (pos 1000) margin 0 (pos 0 ∷ [])
+    ∷ acct 2 0 H (pos 300) 100 0 (pos 0 ∷ [])
+    ∷ acct 3 0 H (pos 500) 250 0 (pos 0 ∷ [])
+    ∷ acct 4 0 H (pos 800) 300 0 (pos 0 ∷ [])
+    ∷ acct 5 0 H (pos 600) 400 0 (pos 0 ∷ [])
+    ∷ acct 6 0 H (pos 400) 200 0 (pos 0 ∷ [])
     ∷ [])
 
 -- of these T, Max EUL, and one after another the given columns of what the day writes
@@ -67,7 +67,7 @@ illustrated margin cs =
 -- member 1's EUL under the one scenario and its own, from its house EUL and its clients
 abbrev member-euls : (house : ℤ) → List (ℕ × ℤ) → List ℤ
 member-euls house cs =
-    let accts = accounts 1 (dayOf 1 (losing 1 0 kindH house ∷ clients 1 cs)) in
+    let accts = accounts 1 (dayOf 1 (losing 1 0 H house ∷ clients 1 cs)) in
     memberUnder accts 1 1 ∷ memberOwn 1 accts 1 ∷ []
 
 abbrev max-of : Opening → List Line → List ℕ
@@ -101,12 +101,12 @@ cases =
     ∷ [])
     -- 3: House -40; R 60, 50, 30, -25; U 20; A 10: EUL 100
     ∷ member-euls (minus 40)
-    ((kindR, pos 60) ∷ (kindR, pos 50) ∷ (kindR, pos 30) ∷ (kindR, minus 25) ∷ (kindU, pos 20) ∷ (kindA, pos 10) ∷ [])
+    ((R, pos 60) ∷ (R, pos 50) ∷ (R, pos 30) ∷ (R, minus 25) ∷ (U, pos 20) ∷ (A, pos 10) ∷ [])
     is-signed (pos 100 ∷ pos 100 ∷ [])
     -- 4: House 0; R 10, 10; U 100: EUL 160
-    ∷ member-euls (pos 0) ((kindR, pos 10) ∷ (kindR, pos 10) ∷ (kindU, pos 100) ∷ []) is-signed (pos 160 ∷ pos 160 ∷ [])
+    ∷ member-euls (pos 0) ((R, pos 10) ∷ (R, pos 10) ∷ (U, pos 100) ∷ []) is-signed (pos 160 ∷ pos 160 ∷ [])
     -- 5: House 0; R five times 3: EUL 8
-    ∷ member-euls (pos 0) ((kindR, pos 3) ∷ (kindR, pos 3) ∷ (kindR, pos 3) ∷ (kindR, pos 3) ∷ (kindR, pos 3) ∷ [])
+    ∷ member-euls (pos 0) ((R, pos 3) ∷ (R, pos 3) ∷ (R, pos 3) ∷ (R, pos 3) ∷ (R, pos 3) ∷ [])
     is-signed (pos 8 ∷ pos 8 ∷ [])
     -- 6: Affiliates 100 and -30 under one scenario: Max EUL 100
     ∷ max-of (groups (1 ∷ 1 ∷ [])) (houses 1 (pos 100 ∷ minus 30 ∷ [])) is (100 ∷ [])
@@ -114,7 +114,7 @@ cases =
     ∷ max-of (groups (1 ∷ 1 ∷ 0 ∷ [])) (houses 1 (pos 100 ∷ pos 80 ∷ pos 150 ∷ [])) is (180 ∷ [])
     -- 8: Affiliates, one losing 100 under 1 only, the other 80 under 2 only, no margins: Max EUL 100
     ∷ max-of (record { n = 2; k = 2; groups = 1 ∷ 1 ∷ [] })
-    (acct 1 0 kindH (pos 100) 0 0 (pos 0 ∷ pos 100 ∷ []) ∷ acct 2 0 kindH (pos 80) 0 0 (pos 80 ∷ pos 0 ∷ []) ∷ [])
+    (acct 1 0 H (pos 100) 0 0 (pos 0 ∷ pos 100 ∷ []) ∷ acct 2 0 H (pos 80) 0 0 (pos 80 ∷ pos 0 ∷ []) ∷ [])
     is (100 ∷ [])
     -- 9: One day, three losses of 200,000,000: raw 73,333,334 each
     ∷ closed (groups (0 ∷ 0 ∷ 0 ∷ [])) ((pos 200000000 ∷ pos 200000000 ∷ pos 200000000 ∷ []) ∷ [])
@@ -139,6 +139,22 @@ x is-fraction y = (x .num * y .den ∷ min 1 (x .den) ∷ []) is (y .num * x .de
 abbrev exact : List (List ℤ) → Opening → (m : ℕ) → Fraction
 exact ess o m = exactCharge o (days-from 1 (step start (opening o)) ess .days) m
 
+-- three days of two members; the first has the highest Max EUL
+abbrev worst-first : List (List ℤ)
+worst-first =
+    (pos 400000000 ∷ pos 200000000 ∷ [])
+    ∷ (pos 100000000 ∷ pos 300000000 ∷ [])
+    ∷ (pos 70000000 ∷ pos 30000000 ∷ [])
+    ∷ []
+
+-- and the last, by the same days the other way round
+abbrev worst-last : List (List ℤ)
+worst-last =
+    (pos 70000000 ∷ pos 30000000 ∷ [])
+    ∷ (pos 100000000 ∷ pos 300000000 ∷ [])
+    ∷ (pos 400000000 ∷ pos 200000000 ∷ [])
+    ∷ []
+
 pub exact-cases : List Case
 exact-cases =
     -- 9: the exact charge is 73,333,333 and a third
@@ -146,9 +162,17 @@ exact-cases =
     -- 10: and here each is whole
     ∷ exact ((pos 100000000 ∷ pos 100000000 ∷ []) ∷ (pos 0 ∷ pos 600000000 ∷ []) ∷ []) (groups (0 ∷ 0 ∷ [])) 1 is-fraction 165000000 over 1
     ∷ exact ((pos 100000000 ∷ pos 100000000 ∷ []) ∷ (pos 0 ∷ pos 600000000 ∷ []) ∷ []) (groups (0 ∷ 0 ∷ [])) 2 is-fraction 495000000 over 1
-    -- the allowance is 1 and 1.1 dollars where M is 10^12, and the printed month's second member falls short by 39,275,000
+    -- three days, by hand: 11 · 400m / 30 of 400/600 + 100/400 + 70/100, and of 200/600 + 300/400 + 30/100
+    ∷ exact worst-first (groups (0 ∷ 0 ∷ [])) 1 is-fraction 2134000000 over 9
+    ∷ exact worst-first (groups (0 ∷ 0 ∷ [])) 2 is-fraction 1826000000 over 9
+    ∷ exact worst-last (groups (0 ∷ 0 ∷ [])) 1 is-fraction 2134000000 over 9
+    ∷ exact worst-last (groups (0 ∷ 0 ∷ [])) 2 is-fraction 1826000000 over 9
+    -- the allowance is 1 dollar where M is 0, 1 and 1.1 dollars where it is 10^12, and in the printed month 1.000429 dollars
+    ∷ allowance 0 is-fraction 1 over 1
     ∷ allowance 1000000000000 is-fraction 21 over 10
-    ∷ map shortfall (10725000 ∷ 50000000 ∷ 418275000 ∷ []) is (39275000 ∷ 0 ∷ 0 ∷ [])
+    ∷ allowance 390000000 is-fraction 1000429 over 1000000
+    -- the printed month's second member falls short by 39,275,000
+    ∷ map shortfall (10725000 ∷ 0 ∷ 49999999 ∷ 50000000 ∷ 418275000 ∷ []) is (39275000 ∷ 50000000 ∷ 1 ∷ 0 ∷ 0 ∷ [])
     ∷ []
 
 pub exact-figures : map (λ (c : Case). c .got) exact-cases ≡ map (λ (c : Case). c .due) exact-cases

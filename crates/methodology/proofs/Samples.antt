@@ -34,6 +34,19 @@ unfoldable pub computed : Unit {0}
 unfolding flatMap range keep any firstWhere insert descending Σ Σℤ greatest Σᶠ ceilDiv roundDiv accountAt accounts decrease eulOf eulUnder largestDecrease ownEul accountsOf houseEul halfOfClients twoLargestOfR partB partC memberEul memberUnder memberOwn loss total groupOf groupSum maxEul share value reserve estimate five dailies highest sumOfShares charge raw funded unfunded exactCharge shortfall allowance three contributions totalFunded row_when_else_ row_at_when_else_ badOpening openingRefusal badDayNumber badLengths badHeading firstBadHeading lastMissing badAmount dayRefusal closingRefusal refusal accept step returned written answer buffer
 computed = tt
 
+-- "Kinds: H (0) house; R (1) [..]; A (2) [..]; U (3) [..]": document 01's numbers, and not the definitions', which the examples hold.
+abbrev pub H : ℕ
+H = 0
+
+abbrev pub R : ℕ
+R = 1
+
+abbrev pub A : ℕ
+A = 2
+
+abbrev pub U : ℕ
+U = 3
+
 pub record Line : Type 0 where
   pub heading : Heading
   pub base : ℤ
@@ -70,6 +83,10 @@ dayOf number lines =
       margins = map (λ l. l .margin) lines;
       extras = map (λ l. l .extra) lines;
     }
+
+-- an opening
+abbrev pub brings : (n k : ℕ) → (groups : List ℕ) → Call
+brings n k groups = opening (record { n = n; k = k; groups = groups })
 
 -- a call with what it must answer and leave in its buffer
 pub record Exchange : Type 0 where

@@ -1,0 +1,463 @@
+#!/usr/bin/env python3
+"""wrong_definitions.py [--only WORD] [--jobs N] [--list]
+
+Definitions are held by the worked tables alone: contract, code and proofs can follow a wrong one.
+This changes the definitions of document 01 (crates/methodology/specs, and those of crates/numbers
+that they are made of) in one place at a time: a constant by one, an operator, a name by another of
+its type, two arguments exchanged, a condition, a factor or a row dropped, rows or fields in another
+order; and in the ways listed by hand below. Each wrong definition is checked with the tables and
+without any other proof. It is held where a table no longer computes.
+
+Prints each one that the tables let through and that is not known to say the same as the right
+definition (tests/equivalent_definitions.txt, with reasons), then how many there were. Exits with 1
+where one is left. Needs rt on the path; --only takes those whose description has WORD, --list shows
+them without a check.
+"""
+import argparse
+import multiprocessing
+import os
+import re
+import shutil
+import subprocess
+import sys
+import tempfile
+from collections import Counter, namedtuple
+
+TOP = os.path.join(os.path.dirname(os.path.abspath(__file__)), "..", "crates")
+# First no table, to see what is a definition at all; then the tables, those that take least time first, since what one lets through is
+# held to the next; with how many wrong definitions are checked at once.
+STAGES = ((None, 40), ("WorkedCalls", 12), ("Figures", 12), ("WorkedTexts", 12), ("WorkedLimits", 4))
+# Words for proofs and code, of which no statement of the outside speaks.
+NOT_OF_THE_DOCUMENT = ("Lines", "Lib")
+
+# A wrong definition: its file, the part of it that is replaced, and what it is called.
+Wrong = namedtuple("Wrong", "file start end new name")
+
+# ---- names and operators, each with what could stand in its place
+
+INSTEAD = {
+    "||": ["&&"], "&&": ["||"], "+": ["-"], "-": ["+"], "*": ["+"], "/": ["%"], "%": ["/"],
+    "+ℤ": ["-ℤ"], "-ℤ": ["+ℤ"], "⊕": ["⊗"], "⊗": ["⊕"], "not": [""], "⁺": ["⁻"],
+    "ltb": ["leb"], "leb": ["ltb"], "eqb": ["leb", "(λ x y. leb y x)"],
+    "max": ["min", "_+_"], "ceilDiv": ["roundDiv", "_/_"], "roundDiv": ["ceilDiv", "_/_"],
+    "greatest": ["Σ"], "Σ": ["greatest"], "any": ["(λ test l. not (any (λ x. not (test x)) l))"],
+    "take": ["drop"], "drop": ["take"], "true": ["false"], "false": ["true"], "pos": ["negsuc"],
+    "suc": [""], "keep": ["(λ test l. l)"], "descending": ["(λ l. l)"],
+}
+SAME_TYPE = [names.split() for names in (
+    ".n .k", ".margins .extras", ".margin .extra", ".member .number .kind", "o .held",
+    "kindH kindR kindA kindU", "isHouse isR isAorU isClient", "prev h nobody", "e Max T", "M S D",
+    "value reserve estimate share", "funded unfunded shortfall", "members scenarios",
+    "halfOfClients twoLargestOfR partB partC", "total maxEul", "eulUnder ownEul",
+    "Fresh Open Closed", "number index", "n k", "at i count used", "tab LF", "bad5 bad6 count",
+    "last number", "margin extra fall", "room D", "m j m′ k", "x y",
+    "nOutside kOutside groupOutside countOutside memberOutside", "step accept",
+    "numberOf below0", '"H" "R" "A" "U"', '"period" "member" "day" "acct" "end"',
+    '"daily" "contribution" "fund" "refused"', "ends bad", "minimum scale limit",
+)]
+# Where a name that stands in another's place is defined, if its file does not have it.
+FROM = {
+    "leb": "lib.Dec", "min": "Prim.Native.Nat", "_+_": "Prim.Native.Nat", "_-_": "Prim.Native.Nat",
+    "_/_": "Prim.Native.Nat", "_%_": "Prim.Native.Nat", "_-ℤ_": "lib.IntN", "_+ℤ_": "lib.IntN",
+    "negsuc": "lib.IntN", "not": "mathlib.Core.Bool", "_||_": "mathlib.Core.Bool",
+    "_&&_": "mathlib.Core.Bool", "roundDiv": "Rattle.numbers.specs.Rounding",
+    "ceilDiv": "Rattle.numbers.specs.Rounding", "Σ": "Rattle.numbers.specs.Sums",
+    "greatest": "Rattle.numbers.specs.Sums", "_⁻": "Rattle.numbers.specs.Signed",
+    "take": "lib.ListN", "drop": "lib.ListN", "false": "mathlib.Core.Bool", "true": "mathlib.Core.Bool",
+}
+
+# ---- wrong definitions that no change of one word makes: file, right, wrong
+
+BY_HAND = [line.split(" | ") for line in """
+Contribution.highest | greatest days (λ d. maxEul o (d .accounts)) | greatest (take 1 days) (λ d. maxEul o (d .accounts))
+Contribution.highest | greatest days (λ d. maxEul o (d .accounts)) | greatest (drop (length days - 1) days) (λ d. maxEul o (d .accounts))
+Contribution.highest | greatest days (λ d. maxEul o (d .accounts)) | greatest (take 2 days) (λ d. maxEul o (d .accounts))
+Contribution.highest | maxEul o (d .accounts)) | total o (d .accounts))
+Contribution.sumOfShares | Σ days | Σ (take 2 days)
+Contribution.sumOfShares | Σ days | Σ (take 1 days)
+Contribution.raw | (length days) | (length (take 2 days))
+Contribution.charge | ceilDiv (11 * M * S) (10 * D * scale) | ceilDiv (11 * M * ceilDiv S D) (10 * scale)
+Contribution.charge | ceilDiv (11 * M * S) (10 * D * scale) | ceilDiv (11 * ceilDiv (M * S) (D * scale)) 10
+Contribution.charge | ceilDiv (11 * M * S) (10 * D * scale) | roundDiv (11 * M * S) (10 * D * scale)
+Contribution.exactCharge | (11 * highest o days) over (10 * length days) | (11 * highest o days) over 10
+Contribution.allowance | whole 1 ⊕ (11 * M) over (10 * scale) | whole 1
+Contribution.allowance | whole 1 ⊕ (11 * M) over (10 * scale) | (11 * M) over (10 * scale)
+Contribution.totalFunded | funded (raw o days m) | raw o days m
+Contribution.unfunded | 2 * funded rawCharge | funded (2 * rawCharge)
+Day.total | Σ (members (o .n)) | Σ (members (o .n - 1))
+Day.maxEul | λ j. memberUnder accts m j ⁺ | λ j. groupSum o accts m j ⁺
+Day.maxEul | (greatest (members (o .n)) (λ m. greatest (scenarios (o .k)) (λ j. memberUnder accts m j ⁺))) | (greatest (members (o .n)) (loss (o .k) accts))
+Day.groupOf | cond (eqb (groupNumber o m) 0) (m ∷ []) | cond (eqb (groupNumber o m) 32) (m ∷ [])
+Day.groupOf | cond (eqb (groupNumber o m) 0) (m ∷ []) | cond (leb (groupNumber o m) 1) (m ∷ [])
+Day.groupSum | memberUnder accts m′ j) | pos (memberUnder accts m′ j ⁺))
+Day.value | roundDiv (100 * e * Max) T | 100 * roundDiv (e * Max) T
+Day.estimate | roundDiv (220 * e * Max) T | 2 * reserve e Max T
+Day.reserve | roundDiv (110 * e * Max) T | ceilDiv (110 * e * Max) T
+Account.largestDecrease | greatest (scenarios k) (decrease row) | decrease row k
+Account.largestDecrease | greatest (scenarios k) (decrease row) | decrease row 1
+Account.decrease | (base row -ℤ stress row j) ⁺ | (stress row j -ℤ base row) ⁺
+Account.eulOf | pos fall -ℤ pos margin +ℤ pos extra | pos ((pos fall -ℤ pos margin +ℤ pos extra) ⁺)
+Account.eulOf | pos fall -ℤ pos margin +ℤ pos extra | pos fall -ℤ pos margin
+Member.houseEul | Σℤ (keep isHouse accts) eul | Σℤ (keep isHouse accts) (λ a. pos (eul a ⁺))
+Member.halfOfClients | (λ a. eul a ⁺)) 2 | (λ a. eul a ⁻)) 2
+Member.halfOfClients | ceilDiv (Σ (keep isClient accts) (λ a. eul a ⁺)) 2 | Σ (keep isClient accts) (λ a. ceilDiv (eul a ⁺) 2)
+Member.halfOfClients | ceilDiv (Σ (keep isClient accts) (λ a. eul a ⁺)) 2 | ceilDiv (Σℤ (keep isClient accts) eul ⁺) 2
+Member.halfOfClients | ceilDiv (Σ (keep isClient accts) (λ a. eul a ⁺)) 2 | Σ (keep isClient accts) (λ a. eul a ⁺)
+Member.twoLargestOfR | take 2 (descending | drop 0 (descending
+Member.partC | (λ a. eul a ⁺) | (λ a. eul a ⁻)
+Member.loss | memberOwn k accts m ⁺ | greatest (range 1 k) (λ j. memberUnder accts m j ⁺)
+Refusals.notRising | eqb (prev .member) (h .member) && ltb (prev .number) (h .number) | ltb (prev .number) (h .number)
+Refusals.memberSkipped | ltb (prev .member + 1) (h .member) | ltb 0 (prev .member) && ltb (prev .member + 1) (h .member)
+Refusals.lastMissing | eqb (h .member) n | eqb (h .member) n && eqb (h .number) 0
+Refusals.firstBadHeading | suc (firstBadHeading n h hs) | suc (firstBadHeading n prev hs)
+Refusals.badAmount | any npvOutside (a .npvs) | any npvOutside (drop 1 (a .npvs))
+Refusals.badAmount | any npvOutside (a .npvs) | any npvOutside (take 2 (a .npvs))
+Register.lastNumber | lastNumber (d ∷ ds) = d .number | lastNumber (d ∷ ds) = max (d .number) (lastNumber ds + 1)
+Register.step | ifAccepted (refusal g c) (accept g c) g | accept g c
+Register.buffer | ifAccepted (refusal g c) (written (step g c) c) before | written (step g c) c
+Text.signedOf | (below0 (numberOf (drop 1 f))) | (below0 (numberOf (take 13 (drop 1 f))))
+Text.kindOf | kindU 9 | kindU 3
+Text.kindOf | cond (same f (bytes "H")) | cond (same f (bytes "H") || same f (bytes "h"))
+Text.kindOf | cond (same f (bytes "R")) | cond (same f (bytes "R") || same f (bytes "r"))
+Text.kindOf | cond (same f (bytes "H")) | cond (same f (bytes "H") || same f (bytes "H\\r"))
+Text.kindOf | cond (same f (bytes "H")) | cond (same f (bytes "H") || same f [])
+Text.kindOf | cond (same f (bytes "H")) | cond (eqb (getD f 0 0) 72)
+Text.kindOf | cond (same f (bytes "R")) | cond (same f (bytes "R") || same f (bytes "1"))
+Text.kindOf | cond (same f (bytes "H")) | cond (same f (bytes "H") || same f (bytes "0"))
+Text.badBytes | any (ltb 127) line | ltb 127 (getD line 0 0)
+Text.numbersAfter | same (getD (fields line) 0 []) word | eqb (length (getD (fields line) 0 [])) (length word)
+Text.numbersAfter | same (getD (fields line) 0 []) word | same (take (length word) line) word
+Text.accountOf | same (getD fs 0 []) (bytes "acct") | eqb (length (getD fs 0 [])) 4
+Text.readPeriod | cond (nOutside n || kOutside k) (ends (refusedLine 1 i)) | cond false (ends (refusedLine 1 i))
+Text.readLine | cond (same l (bytes "end")) | cond (same (take 3 l) (bytes "end"))
+Text.sized | goesOn (dayLines (step g (Call.day d room)) d room) (day (step g (Call.day d room))) | goesOn (dayLines (step g (Call.day d room)) d room) (day g)
+Text.followedBy | report ++ rest next | rest next
+""".strip().split("\n")]
+
+# ---- reading a file of definitions
+
+TOKEN = re.compile(r'"(?:\\.|[^"])*"|[(){};,]|[^\s(){};,"]+')
+WORDS = {"let", "in", "=", ";", "row", "when", "else", ",", "{", "}", "record", ":", "→"}
+INFIX = {"||", "&&", "+", "-", "*", "/", "%", "∷", "++", "+ℤ", "-ℤ", "over", "⊕", "⊗", "×", "≤", "<"}
+
+Token = namedtuple("Token", "text start end")
+
+
+def definitions(text):
+    """The name of each definition, with the tokens that stand after its first =, equation by
+    equation. Signatures, records, constructors and comments have none."""
+    at, name, found = 0, None, []
+    for line in text.split("\n"):
+        code = line.split("--")[0] if line.lstrip().startswith("--") else line
+        tokens = [Token(m.group(), at + m.start(), at + m.end()) for m in TOKEN.finditer(code)]
+        words = [token.text for token in tokens]
+        if words and not line[0].isspace():
+            name = None
+            if words[0] not in ("use", "pub", "abbrev", "unfoldable", "infix", "infixl", "infixr") \
+                    and not words[0].startswith("--") and words[0] != "}" and "=" in words:
+                name = words[0] if words[0] != "row" else "row_"
+                found.append((name, tokens[words.index("=") + 1:]))
+        elif name and tokens:
+            found[-1][1].extend(tokens)
+        at += len(line) + 1
+    return found
+
+
+def sequences(tokens):
+    """The applications and operators of an expression: lists of items (a token, or a group in
+    parentheses), of one depth and between the words that part an expression."""
+    out, stack = [], [[]]
+    for token in tokens:
+        if token.text == "(":
+            stack.append([token])
+        elif token.text == ")" and len(stack) > 1:
+            group = stack.pop()
+            out.append(group[1:])
+            stack[-1].append(Token("(", group[0].start, token.end))
+        else:
+            stack[-1].append(token)
+    out += stack
+    parted = []
+    for items in out:
+        run = []
+        for item in items:
+            if item.text in WORDS or item.text == "λ" or item.text.endswith(".") and len(item.text) > 1:
+                parted.append(run)
+                run = []
+            else:
+                run.append(item)
+        parted.append(run)
+    return [run for run in parted if len(run) > 1]
+
+
+def operands(items):
+    """The parts between infix operators: [operand, operator, operand ..], each a list of items."""
+    parts = [[]]
+    for item in items:
+        if item.text in INFIX:
+            parts += [[item], []]
+        else:
+            parts[-1].append(item)
+    return parts if all(parts) else []
+
+
+def span(items):
+    return items[0].start, items[-1].end
+
+
+# ---- the changes
+
+def word_changes(tokens):
+    """A constant by one; an operator or a name by another."""
+    for i, token in enumerate(tokens):
+        label = i + 1 < len(tokens) and tokens[i + 1].text == "=" and token.text != "="
+        if label:
+            continue            # the field's name in a record, or what a let names
+        if token.text.isdigit():
+            value = int(token.text)
+            yield token, str(value + 1)
+            if value:
+                yield token, str(value - 1)
+        for other in INSTEAD.get(token.text, []):
+            yield token, other
+        for names in SAME_TYPE:
+            if token.text in names:
+                for other in names:
+                    if other != token.text:
+                        yield token, other
+
+
+def order_changes(text, tokens):
+    """Two arguments exchanged, an operand dropped, two elements of a list exchanged."""
+    for items in sequences(tokens):
+        parts = operands(items)
+        for i in range(0, len(parts) - 2, 2):
+            left, middle, right = parts[i], parts[i + 1], parts[i + 2]
+            start, end = span(left + middle + right)
+            (a, b), (c, d) = span(left), span(right)
+            if middle[0].text in ("∷", "-", "-ℤ", "over", "++", "/", "%"):
+                yield start, end, text[c:d] + text[b:c] + text[a:b]
+            yield start, end, text[a:b]
+            if middle[0].text not in ("∷", "-ℤ"):
+                yield start, end, text[c:d]
+        for part in parts[::2] if parts else [items]:
+            if any(item.text.startswith(".") and item.text[1:] for item in part):
+                continue
+            for one, two in zip(part[1:], part[2:]):
+                if text[slice(*span([one]))] != text[slice(*span([two]))]:
+                    yield one.start, two.end, text[two.start:two.end] + text[one.end:two.start] + text[one.start:one.end]
+
+
+def row_changes(text, path):
+    """A row of the refusal table dropped, or exchanged with the next."""
+    lines = list(re.finditer(r"    row .*? else\n", text))
+    for i, row in enumerate(lines):
+        yield row.start(), row.end(), "", "row " + row.group().split()[1] + " dropped"
+        if i + 1 < len(lines) and lines[i + 1].start() == row.end():
+            after = lines[i + 1]
+            yield (row.start(), after.end(), after.group() + row.group(),
+                   f"row {after.group().split()[1]} before row {row.group().split()[1]}")
+
+
+def wrong_definitions():
+    out, seen = [], Counter()
+
+    def add(path, start, end, new, definition, change):
+        name = f"{os.path.basename(path)[:-5]}.{definition}: {' '.join(change.split())}"
+        seen[name] += 1
+        if seen[name] > 1:
+            name += f" ({seen[name]})"
+        out.append(Wrong(path, start, end, new, name))
+
+    for crate in ("numbers", "methodology"):
+        for file in sorted(os.listdir(os.path.join(TOP, crate, "specs"))):
+            if file[:-5] in NOT_OF_THE_DOCUMENT:
+                continue
+            path = os.path.join(crate, "specs", file)
+            with open(os.path.join(TOP, path), encoding="utf8") as source:
+                text = source.read()
+            for definition, tokens in definitions(text):
+                held = set()
+                for token, new in word_changes(tokens):
+                    i = tokens.index(token)
+                    before = " ".join(t.text for t in tokens[max(0, i - 3):i])
+                    after = " ".join(t.text for t in tokens[i + 1:i + 3])
+                    held.add((token.start, token.end, new))
+                    add(path, token.start, token.end, new, definition,
+                        f"{before} [{token.text} → {new}] {after}")
+                for start, end, new in order_changes(text, tokens):
+                    if (start, end, new) not in held and text[start:end] != new:
+                        held.add((start, end, new))
+                        add(path, start, end, new, definition, f"{text[start:end]} → {new}")
+            for start, end, new, change in row_changes(text, path):
+                add(path, start, end, new, "table", f"{change} at {text[:start].count(chr(10)) + 1}")
+    for place, right, wrong in BY_HAND:
+        file, definition = place.split(".")
+        crate = "numbers" if not os.path.exists(os.path.join(TOP, "methodology", "specs", file + ".antt")) else "methodology"
+        path = os.path.join(crate, "specs", file + ".antt")
+        with open(os.path.join(TOP, path), encoding="utf8") as source:
+            text = source.read()
+        start = text.find(right, text.index(f"\n{definition} "))
+        assert start >= 0, f"{place}: its text has moved: {right}"
+        add(path, start, start + len(right), wrong, definition, f"{right} → {wrong}")
+    return out
+
+
+# ---- the check
+
+MODULE = re.compile(r"Rattle·(?:numbers|methodology)(?:·specs|·proofs)?\.(specs|proofs)\.(\w+)")
+
+
+class Modules:
+    """The definitions and a table, all in one crate, by name: folder and text."""
+    def __init__(self, table):
+        self.table, self.folder, self.text, self.uses = table, {}, {}, {}
+        for crate, folder, names in (("numbers", "specs", None), ("methodology", "specs", None),
+                                     ("methodology", "proofs", table and ("Samples", table) or ("none",))):
+            for file in sorted(os.listdir(os.path.join(TOP, crate, folder))):
+                name = file[:-5]
+                if name in NOT_OF_THE_DOCUMENT or not file.endswith(".antt") or names and name not in names:
+                    continue
+                with open(os.path.join(TOP, crate, folder, file), encoding="utf8") as source:
+                    self.folder[name], self.text[name] = folder, source.read()
+        for name, text in self.text.items():
+            self.uses[name] = {used for _, used in MODULE.findall(text)} & set(self.text)
+
+    def resting_on(self, name):
+        """A module with all that rest on it and that the table rests on; without a table itself alone."""
+        found, needed = {name}, {self.table}
+        for _ in self.text:
+            found |= {other for other in self.text if self.uses[other] & found}
+            needed |= {used for other in needed & set(self.text) for used in self.uses[other]}
+        return found & needed | {name}
+
+    def written(self, place, names, mark, texts):
+        """Writes these modules under names that begin with the mark, which they use among each
+        other; all else they use of the modules without one."""
+        for name in names:
+            text = MODULE.sub(lambda m: "Rattle.methodology.%s.%s" % (
+                m[1], m[1], (mark if m[2] in names else "") + m[2]), texts.get(name, self.text[name]))
+            with open(os.path.join(place, self.folder[name], mark + name + ".antt"), "w", encoding="utf8") as file:
+                file.write(text)
+        return [(self.folder[name], mark + name) for name in names]
+
+
+def checked(modules, wrongs):
+    """Checks several wrong definitions at once, each with copies of all that rests on it. What
+    becomes of each: held, by which table; let through; or no definition at all."""
+    with tempfile.TemporaryDirectory() as top:
+        place = os.path.join(top, "methodology")
+        for folder in ("src", "specs", "proofs"):
+            os.makedirs(os.path.join(place, folder))
+        shutil.copy(os.path.join(TOP, "methodology", "src", "lib.rt"), os.path.join(place, "src"))
+        listed, marks = [], {}
+        for number, wrong in enumerate(wrongs):
+            name, mark = os.path.basename(wrong.file)[:-5], f"W{number}x"
+            text = modules.text[name]
+            changed = with_names(text[:wrong.start] + wrong.new + text[wrong.end:], wrong.new)
+            listed += modules.written(place, modules.resting_on(name), mark, {name: changed})
+            marks[mark] = wrong
+        listed += modules.written(place, [name for name in modules.text if modules.folder[name] == "specs"
+                                          or not wrongs], "", {})
+        for folder in ("specs", "proofs"):
+            with open(os.path.join(place, folder, "Lib.antt"), "w") as file:
+                file.write("".join(f"pub mod {name}\n" for where, name in listed if where == folder))
+        done = subprocess.run(["rt", "check", place], cwd=top, stdout=subprocess.PIPE, stderr=subprocess.STDOUT,
+                              env=dict(os.environ, RT_CUT="400"))
+        said = done.stdout.decode(errors="replace")
+    if done.returncode not in (0, 1):
+        return None
+    errors = re.findall(r"/(specs|proofs)/(W\d+x)?(\w+)\.antt:\d+:\d+: error", said)
+    if any(not mark for _, mark, _ in errors) or not wrongs and done.returncode:
+        raise SystemExit("the right definitions are refused:\n" + said)
+    verdicts = []
+    for mark, wrong in marks.items():
+        mine = [(folder, name) for folder, at, name in errors if at == mark]
+        if any(folder == "specs" for folder, _ in mine):
+            verdicts.append((wrong, "no definition"))
+        elif mine:
+            verdicts.append((wrong, "held by " + mine[0][1]))
+        else:
+            verdicts.append((wrong, "let through"))
+    return verdicts
+
+
+def judged(task):
+    """The verdicts on a batch; one by one where the prover gives none on all of it."""
+    modules, wrongs = task
+    verdicts = checked(modules, wrongs)
+    if verdicts is None:
+        verdicts = [one for wrong in wrongs for one in checked(modules, [wrong]) or [(wrong, "no verdict")]]
+    return verdicts
+
+
+def with_names(text, new):
+    """The file with the names brought in that the change needs."""
+    lines = text.split("\n")
+    for name in FROM:
+        bare = name.strip("_")
+        if not re.search(r"(?<![^\s()])" + re.escape(bare) + r"(?![^\s()])", new) and name not in new.split():
+            continue
+        if re.search(r"[{, ]" + re.escape(name) + r"[,}]", text) or re.search(
+                r"^(abbrev |unfoldable )?(pub )?" + re.escape(name) + r" ", text, re.M):
+            continue
+        at = next((i for i, line in enumerate(lines) if line.startswith(f"use {FROM[name]}.{{")), None)
+        if at is None:
+            first = next(i for i, line in enumerate(lines) if line.startswith("use "))
+            lines.insert(first, f"use {FROM[name]}.{{{name}}}")
+        else:
+            lines[at] = lines[at].replace("{", "{" + name + ", ", 1)
+    return "\n".join(lines)
+
+
+def known():
+    """What tests/equivalent_definitions.txt has: a reason above each wrong definition."""
+    reasons, reason = {}, ""
+    with open(os.path.join(os.path.dirname(os.path.abspath(__file__)), "equivalent_definitions.txt"), encoding="utf8") as file:
+        for line in file:
+            if line.startswith("# "):
+                reason = line[2:].strip()
+            elif line.strip():
+                reasons[line.strip()] = reason
+    return reasons
+
+
+def main():
+    parser = argparse.ArgumentParser(description=__doc__, formatter_class=argparse.RawDescriptionHelpFormatter)
+    parser.add_argument("--only", default="")
+    parser.add_argument("--jobs", type=int, default=2)
+    parser.add_argument("--list", action="store_true")
+    given = parser.parse_args()
+    wrong = [w for w in wrong_definitions() if given.only in w.name]
+    if given.list:
+        print("\n".join(w.name for w in wrong))
+        print(len(wrong))
+        return
+    same, count, left = known(), Counter(), []
+    with multiprocessing.Pool(given.jobs) as pool:
+        for table, size in STAGES:
+            modules, through = Modules(table), []
+            checked(modules, [])
+            batches = [wrong[i:i + size] for i in range(0, len(wrong), size)]
+            for verdicts in pool.imap_unordered(judged, [(modules, batch) for batch in batches]):
+                for one, verdict in verdicts:
+                    if verdict == "let through":
+                        through.append(one)
+                    else:
+                        count[verdict] += 1
+            wrong = through
+    for one in wrong:
+        if one.name in same:
+            count["says the same"] += 1
+        else:
+            count["let through"] += 1
+            left.append(one.name)
+            print("let through:", one.name)
+    for verdict, times in sorted(count.items()):
+        print(f"{times:6} {verdict}")
+    print(f"{sum(count.values()) - count['no definition']} wrong definitions, {len(left)} left")
+    sys.exit(1 if left or count["no verdict"] else 0)
+
+
+if __name__ == "__main__":
+    main()
