@@ -2,11 +2,13 @@
 -- By computation. Every case starts from accounts in a day's slices; 9 and 10 go through the calls of a period.
 use mathlib.Core.Path.{_≡_, refl}
 use mathlib.Core.List.{List, [], _∷_, _++_, map}
-use Prim.Native.Nat.{ℕ, suc, _+_, _-_, _*_, min}
+use Prim.Native.Nat.{ℕ, suc, _+_, _-_, _*_, _<_, min}
+use native.Mathlib.Omega.{arith}
 use lib.IntN.{ℤ, pos}
 use lib.ListN.{length, getD}
-use Rattle.numbers.specs.Fractions.{Fraction, _over_}
-use Rattle.methodology.specs.Account.{Opening, DayInput, members, accounts}
+use Rattle.numbers.specs.Fractions.{Fraction, _over_, Proper, _≼_, _≺_}
+use Rattle.numbers.specs.Lists.{Every}
+use Rattle.methodology.specs.Account.{Opening, DayInput, members, accounts, nobody, headingAt}
 use Rattle.methodology.specs.Member.{memberUnder, memberOwn}
 use Rattle.methodology.specs.Day.{total, maxEul, dailies}
 use Rattle.methodology.specs.Contribution.{exactCharge, allowance, shortfall}
@@ -164,8 +166,6 @@ exact-cases =
     ∷ exact ((pos 100000000 ∷ pos 100000000 ∷ []) ∷ (pos 0 ∷ pos 600000000 ∷ []) ∷ []) (groups (0 ∷ 0 ∷ [])) 2 is-fraction 495000000 over 1
     -- three days, by hand: 11 · 400m / 30 of 400/600 + 100/400 + 70/100, and of 200/600 + 300/400 + 30/100
     ∷ exact worst-first (groups (0 ∷ 0 ∷ [])) 1 is-fraction 2134000000 over 9
-    ∷ exact worst-first (groups (0 ∷ 0 ∷ [])) 2 is-fraction 1826000000 over 9
-    ∷ exact worst-last (groups (0 ∷ 0 ∷ [])) 1 is-fraction 2134000000 over 9
     ∷ exact worst-last (groups (0 ∷ 0 ∷ [])) 2 is-fraction 1826000000 over 9
     -- the allowance is 1 dollar where M is 0, 1 and 1.1 dollars where it is 10^12, and in the printed month 1.000429 dollars
     ∷ allowance 0 is-fraction 1 over 1
@@ -178,3 +178,37 @@ exact-cases =
 pub exact-figures : map (λ (c : Case). c .got) exact-cases ≡ map (λ (c : Case). c .due) exact-cases
 unfolding exact-cases computed
 exact-figures = refl
+
+-- What demand 3 says its bounds by, from both sides: at most, less than, a denominator above 0, every number of a list.
+pub orders :
+    (1 over 3 ≼ 2 over 6)
+    × (1 over 2 ≼ 2 over 3)
+    × ¬ (2 over 3 ≼ 1 over 2)
+    × (1 over 2 ≺ 2 over 3)
+    × ¬ (1 over 3 ≺ 2 over 6)
+    × ¬ (2 over 3 ≺ 1 over 2)
+    × Proper (0 over 1)
+    × ¬ Proper (1 over 0)
+    × Every (λ x. x < 3) (1 ∷ 2 ∷ [])
+    × ¬ Every (λ x. x < 3) (3 ∷ 2 ∷ [])
+    × ¬ Every (λ x. x < 3) (1 ∷ 3 ∷ [])
+orders = (
+  omega arith,
+  omega arith,
+  (λ h. omega (arith, h)),
+  omega arith,
+  (λ h. omega (arith, h)),
+  (λ h. omega (arith, h)),
+  omega arith,
+  (λ h. omega (arith, h)),
+  (omega arith, (omega arith, tt)),
+  (λ h. omega (arith, h .0)),
+  (λ h. omega (arith, h .1 .0)),
+)
+
+-- A heading of three columns of numbers, and past their end.
+pub headings-worked :
+    (headingAt (1 ∷ 2 ∷ []) (3 ∷ 4 ∷ []) (5 ∷ 6 ∷ []) 1 ≡ record { member = 2; number = 4; kind = 6 })
+    × (headingAt (1 ∷ 2 ∷ []) (3 ∷ 4 ∷ []) (5 ∷ 6 ∷ []) 2 ≡ nobody)
+    × (nobody ≡ record { member = 0; number = 0; kind = 0 })
+headings-worked = (refl, refl, refl)
