@@ -1,4 +1,5 @@
 mod Covering
 mod Lists
 mod Fitting
+mod Facts
 pub mod Demand3

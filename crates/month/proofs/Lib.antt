@@ -1,3 +1,4 @@
 pub mod Openings
 pub mod Turns
 pub mod Whole
+pub mod Reported
