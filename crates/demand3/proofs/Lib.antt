@@ -1,5 +1,6 @@
 mod Covering
 mod Lists
 mod Fitting
-mod Facts
+pub mod Facts
+pub mod Returns
 pub mod Demand3
