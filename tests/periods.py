@@ -106,10 +106,12 @@ def claimed(root):
     """The functions that the claim is about: the one that every list starts from, and the calls."""
     with open(os.path.join(root, CLAIM), encoding="utf8") as file:
         text = file.read()
-    modules = {alias: module for module, alias in re.findall(r"^use Rattle·(\S+) as (\S+)$", text, re.M)}
-    about = [re.search(rf"pub {head}\b.*?\n\n", text, re.S)[0] for head in ("data Called", "record FromFresh")]
-    return {modules[alias].replace(".proofs.", ".").replace(".", "::")
-            for part in about for alias in re.findall(r"Args (\S+)\.signature", part)}
+    uses = re.findall(r"^use Rattle·(\S+) as (\S+)$", text, re.M)
+    modules = {name: module for module, name in uses}
+    parts = [re.search(rf"pub {head}\b.*?\n\n", text, re.S)[0]
+             for head in ("record FromFresh", "data Called")]
+    return {modules[name].replace(".proofs.", ".").replace(".", "::")
+            for part in parts for name in re.findall(r"Args (\S+)\.signature", part)}
 
 
 def main():
@@ -119,15 +121,17 @@ def main():
     names, due = holders(found), claimed(root) | PASSING_ON
     listed = {"::".join(path) for kind, path, public, named in found
               if public and kind in ("fn", "const", "static") and names & set(named)}
-    wrong = [f"{name}: it is not claimed that it keeps to the calls" for name in sorted(listed - due)]
-    wrong += [f"{name}: there is no such public function" for name in sorted(due - listed)]
-    fields = [named for kind, path, _, named in found if (kind, path) == ("struct", ["period", "Period"])]
+    wrong = [f"{name} has a period in its type and is neither claimed nor known to pass it on"
+             for name in sorted(listed - due)]
+    wrong += [f"{name} is no public function with a period in its type"
+              for name in sorted(due - listed)]
+    fields = [named for kind, path, _, named in found
+              if (kind, path) == ("struct", ["period", "Period"])]
     if len(fields) != 1 or "pub" in fields[0]:
-        wrong.append("period::Period: not one struct with private fields")
+        wrong.append("period::Period is not one struct with private fields")
 
-    for name in sorted(listed):
-        print(name)
-    print(f"{len(listed)} public functions of {', '.join(sorted(names))}; {len(wrong)} wrong")
+    print("\n".join(sorted(listed)))
+    print(f"{len(listed)} with {', '.join(sorted(names))} in their type, {len(wrong)} wrong")
     for line in wrong:
         print(line)
     sys.exit(1 if wrong else 0)
