@@ -1,8 +1,8 @@
 // Runs months one after another. Each stands after a line with the word `month`, its number and how many bytes it has, and its report is
 // written after such a line with the word `report`. A text that is not of this form ends the run.
-use input::read_all;
 use libc::STDOUT_FILENO;
 use lines::numbers_at;
+use program::read_all;
 use report::put_line;
 ghost use Prim.Native.Nat.{_≤_};
 ghost use lib.ListN.{length};

@@ -1,0 +1,15 @@
+-- `brought` meets its contract: the answer's bits are read back for the number that libc gave.
+use borrow.Author.Needs.{needs}
+use Rattle.numbers.proofs.Signed.{back}
+use Rattle.program.proofs.brought.Statement.{statement}
+use Rattle.program.proofs.brought.Tie as tie
+
+count-requires : tie.Need-count-requires
+count-requires c κs = search needs
+
+returns : tie.Need-returns
+returns c =
+    (search needs, (rw (back (c .before .before .fits .got)) at (c .count .ensures .1), search needs))
+
+pub brought-spec : {M : Type 1} → statement M
+brought-spec = tie.close (tie.spec count-requires returns)

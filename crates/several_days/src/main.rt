@@ -1,0 +1,4 @@
+// The program once more, which the gate runs on a month of several days.
+fn main() {
+    program::run();
+}
