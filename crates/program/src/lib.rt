@@ -1,7 +1,6 @@
-// The program: reads a month's text from standard input and writes its report to standard output. Where a read or a write fails it says so
-// on standard error, so that no part of a text passes for the whole.
+// The program: reads a month's text and writes its report to standard output. Where a read or a write fails it says so on standard error, so
+// that no part of a text passes for the whole. The text comes from a descriptor that the caller names: standard input, or in a test none.
 use libc::STDERR_FILENO;
-use libc::STDIN_FILENO;
 use libc::STDOUT_FILENO;
 ghost use mathlib.Core.Bool.{true, false};
 ghost use mathlib.Core.List.{List};
@@ -42,21 +41,21 @@ fn piece(room: usize) -> usize
 }
 
 // One read, of a piece at most.
-fn read_some(text: &mut [u8]) -> Input
+fn read_some(from: i32, text: &mut [u8]) -> Input
     ensures { λ r. ⌜ r .bytes ≤ length (now (text .exit)) ⌝ }
 {
     let end = piece(text.len());
-    let got = libc::read(STDIN_FILENO, &mut text[0..end]);
+    let got = libc::read(from, &mut text[0..end]);
     brought(got, text)
 }
 
 // Reads until the input ends or the buffer is full.
-pub fn read_all(text: &mut [u8]) -> Input
+pub fn read_all(from: i32, text: &mut [u8]) -> Input
     ensures { λ r. ⌜ r .bytes ≤ length (now (text .exit)) ⌝ }
 {
     let mut done: usize = 0;
     while done < text.len() {
-        let more = read_some(&mut text[done..]);
+        let more = read_some(from, &mut text[done..]);
         if more.bytes == 0 {
             return Input {
                 failed: more.failed,
@@ -87,10 +86,10 @@ fn report_of(text: &[u8], input: Input, out: &mut [u8]) -> usize
     month::report(&text[0..n], out)
 }
 
-fn answer(text: &mut [u8], out: &mut [u8])
+fn answer(from: i32, text: &mut [u8], out: &mut [u8])
     requires { ⌜ (length (now text) ≡ 2162688) × (length (now out) ≡ 147456) ⌝ }
 {
-    let input = read_all(text);
+    let input = read_all(from, text);
     if input.failed {
         io::write_all(STDERR_FILENO, b"sizing: standard input cannot be read\n");
     }
@@ -104,12 +103,12 @@ fn answer(text: &mut [u8], out: &mut [u8])
 }
 
 // Between arrays and slices: lent by its type, an array has its length without counting it.
-fn lend(text: &mut [u8; 2162688], out: &mut [u8; 147456]) {
-    answer(text, out);
+fn lend(from: i32, text: &mut [u8; 2162688], out: &mut [u8; 147456]) {
+    answer(from, text, out);
 }
 
-pub fn run() {
+pub fn run(from: i32) {
     let mut text = [0; 2162688];
     let mut out = [0; 147456];
-    lend(&mut text, &mut out);
+    lend(from, &mut text, &mut out);
 }

@@ -1,4 +1,6 @@
-// The program. All of it stands in the crate `program`, so that the gate runs it on two months: here on one of full size.
+// The program. All of it stands in the crate `program`, so that the gate can run it twice: here on a month of full size.
+use libc::STDIN_FILENO;
+
 fn main() {
-    program::run();
+    program::run(STDIN_FILENO);
 }

@@ -1,5 +1,6 @@
 // Runs months one after another. Each stands after a line with the word `month`, its number and how many bytes it has, and its report is
 // written after such a line with the word `report`. A text that is not of this form ends the run.
+use libc::STDIN_FILENO;
 use libc::STDOUT_FILENO;
 use lines::numbers_at;
 use program::read_all;
@@ -38,7 +39,7 @@ fn run_month(text: &[u8], at: usize, heading: &mut [u8], out: &mut [u8]) -> usiz
 }
 
 fn run(text: &mut [u8], heading: &mut [u8], out: &mut [u8]) {
-    let input = read_all(text);
+    let input = read_all(STDIN_FILENO, text);
     let n = input.bytes;
     let mut at: usize = 0;
     while at < n {

@@ -7,10 +7,10 @@ use Rattle.program.proofs.read_all.Statement.{statement}
 use Rattle.program.proofs.read_all.Tie as tie
 
 abbrev Inv-loop : tie.InvT-loop
-Inv-loop text₀ done₀ text done = (done ≤ length text) × (length text ≡ length text₀)
+Inv-loop from text₀ done₀ text done = (done ≤ length text) × (length text ≡ length text₀)
 
 abbrev μ-loop : tie.MeasureT-loop
-μ-loop text₀ done₀ text done = length text₀ - done
+μ-loop from text₀ done₀ text done = length text₀ - done
 
 loop-holds : tie.Need-loop-holds Inv-loop μ-loop
 loop-holds c = search needs
