@@ -21,6 +21,7 @@ import termios
 import threading
 import time
 from contextlib import contextmanager
+from functools import cache
 
 import months
 import recalculation
@@ -28,7 +29,7 @@ import recalculation
 TOP = os.path.join(os.path.dirname(os.path.abspath(__file__)), "..")
 PIECE = 65_536              # as much as one read asks for, and as a pipe holds
 PROGRAM = os.path.abspath(sys.argv[1])
-runs, wrong = 0, []
+verdicts = []               # of each run, whether it was right
 
 
 def stored(*path):
@@ -63,32 +64,42 @@ def too_long():
 @contextmanager
 def started(stdin, stdout, **more):
     """A run of the program, which is ended after a minute."""
-    process = subprocess.Popen([PROGRAM], stdin=stdin, stdout=stdout, stderr=subprocess.PIPE,
-                               bufsize=0, **more)
-    late = threading.Timer(60, process.kill)
-    late.start()
-    try:
-        yield process
-    finally:
-        late.cancel()
-        process.kill()
-        process.wait()
+    with subprocess.Popen([PROGRAM], stdin=stdin, stdout=stdout, stderr=subprocess.PIPE,
+                          bufsize=0, **more) as process:
+        late = threading.Timer(60, process.kill)
+        late.start()
+        try:
+            yield process
+        finally:
+            late.cancel()
+            process.kill()
 
 
 def ended(name, process, as_due, word):
-    """Judges a run: whether what it wrote is as due, and what it said names what failed."""
-    global runs
-    said = process.stderr.read()
-    status = process.wait()
-    runs += 1
-    if not as_due() or status < 0 or (word not in said if word else said):
-        wrong.append(name)
+    """Judges a run: what it wrote is as due, and it said what failed, or nothing."""
+    said, status = process.stderr.read(), process.wait()
+    right = as_due() and status >= 0 and (word in said if word else not said)
+    verdicts.append(right)
+    if not right:
         print(f"wrong: {name} (status {status}, said {said!r})")
+
+
+@contextmanager
+def file_of(text):
+    with tempfile.TemporaryFile() as file:
+        file.write(text)
+        file.seek(0)
+        yield file
 
 
 def held(out):
     """All that stands in an open file."""
     return os.pread(out.fileno(), 1 << 24, 0)
+
+
+@cache
+def due(text):
+    return recalculation.report(text)
 
 
 def unread(fd):
@@ -101,11 +112,8 @@ def unread(fd):
 # Reports
 
 def from_file(name, text):
-    with tempfile.TemporaryFile() as month, tempfile.TemporaryFile() as out:
-        month.write(text)
-        month.seek(0)
-        with started(month, out) as process:
-            ended(name + ", a file", process, lambda: held(out) == due(text), b"")
+    with file_of(text) as month, tempfile.TemporaryFile() as out, started(month, out) as process:
+        ended(name + ", a file", process, lambda: held(out) == due(text), b"")
 
 
 def from_pipe(name, text, size, wait=0):
@@ -127,41 +135,27 @@ def from_pipe(name, text, size, wait=0):
 
 
 def to_slow_reader(name, text, size):
-    with tempfile.TemporaryFile() as month:
-        month.write(text)
-        month.seek(0)
-        with started(month, subprocess.PIPE) as process:
-            time.sleep(0.2)
-            report = b""
-            while part := process.stdout.read(size):
-                report += part
-                time.sleep(0.001)
-            ended(f"{name}, read by {size}", process, lambda: report == due(text), b"")
+    with file_of(text) as month, started(month, subprocess.PIPE) as process:
+        time.sleep(0.2)
+        report = b""
+        while part := process.stdout.read(size):
+            report += part
+            time.sleep(0.001)
+        ended(f"{name}, read by {size}", process, lambda: report == due(text), b"")
 
 
 def to_stopped_pipe(name, text):
     """A write that is stopped while the pipe is full ends short, and the rest has to follow."""
-    with tempfile.TemporaryFile() as month:
-        month.write(text)
-        month.seek(0)
-        with started(month, subprocess.PIPE) as process:
-            while unread(process.stdout) < PIECE and process.poll() is None:
-                time.sleep(0.01)
-            process.send_signal(signal.SIGSTOP)
+    with file_of(text) as month, started(month, subprocess.PIPE) as process:
+        while unread(process.stdout) < PIECE and process.poll() is None:
+            time.sleep(0.01)
+        for which in (signal.SIGSTOP, signal.SIGCONT):
+            process.send_signal(which)
             time.sleep(0.1)
-            process.send_signal(signal.SIGCONT)
-            time.sleep(0.1)
-            report = b""
-            while part := process.stdout.read(PIECE):
-                report += part
-            ended(name + ", a short write", process, lambda: report == due(text), b"")
-
-
-def due(text, reports={}):
-    """The report that is due, worked out once."""
-    if text not in reports:
-        reports[text] = recalculation.report(text)
-    return reports[text]
+        report = b""
+        while part := process.stdout.read(PIECE):
+            report += part
+        ended(name + ", a short write", process, lambda: report == due(text), b"")
 
 
 # Failures
@@ -186,11 +180,10 @@ def input_breaks(name, text):
 
 
 def output_fails(name, text, stdout, part=lambda: True, **more):
-    with tempfile.TemporaryFile() as month:
-        month.write(text)
-        month.seek(0)
-        with started(month, stdout, restore_signals=False, **more) as process:
-            ended("output " + name, process, part, b"standard output")
+    """SIGPIPE and SIGXFSZ stay ignored, as Python has them, so that the write itself fails."""
+    with file_of(text) as month, \
+            started(month, stdout, restore_signals=False, **more) as process:
+        ended("output " + name, process, part, b"standard output")
 
 
 def output_cut(text, size):
@@ -246,8 +239,8 @@ def main():
     output_cut(small, 1_000)
     output_cut(full, PIECE)
 
-    print(f"{runs} runs, {len(wrong)} wrong")
-    sys.exit(1 if wrong else 0)
+    print(f"{len(verdicts)} runs, {verdicts.count(False)} wrong")
+    sys.exit(0 if all(verdicts) else 1)
 
 
 if __name__ == "__main__":
