@@ -47,7 +47,7 @@ INSTEAD = {
 SAME_TYPE = [names.split() for names in (
     ".n .k", ".margins .extras", ".margin .extra", ".member .number .kind", "o .held",
     "kindH kindR kindA kindU", "isHouse isR isAorU isClient", "prev h nobody", "e Max T", "M S D",
-    "value reserve estimate share", "funded unfunded shortfall", "members scenarios",
+    "value reserve estimate share", "funded unfunded shortfall",
     "halfOfClients twoLargestOfR partB partC", "total maxEul", "eulUnder ownEul",
     "Fresh Open Closed", "number index", "n k", "at i count used", "tab LF", "bad5 bad6 count",
     "last number", "margin extra fall", "room D", "m j m′ k", "x y",
@@ -55,6 +55,8 @@ SAME_TYPE = [names.split() for names in (
     "numberOf below0", '"H" "R" "A" "U"', '"period" "member" "day" "acct" "end"',
     '"daily" "contribution" "fund" "refused"', "ends bad", "minimum scale limit",
 )]
+# Their arguments may change places.
+COMMUTE = ("eqb", "max", "same")
 # Where a name that stands in another's place is defined, if its file does not have it.
 FROM = {
     "leb": "lib.Dec", "min": "Prim.Native.Nat", "_+_": "Prim.Native.Nat", "_-_": "Prim.Native.Nat",
@@ -133,6 +135,8 @@ Text.readLine | cond (same l (bytes "end")) | cond (same (take 3 l) (bytes "end"
 Text.sized | goesOn (dayLines (step g (Call.day d room)) d room) (day (step g (Call.day d room))) | goesOn (dayLines (step g (Call.day d room)) d room) (day g)
 Text.followedBy | report ++ rest next | rest next
 """.strip().split("\n")]
+
+UNCHANGED = ": unchanged"
 
 # ---- reading a file of definitions
 
@@ -243,7 +247,7 @@ def order_changes(text, tokens):
         for part in parts[::2] if parts else [items]:
             if any(item.text.startswith(".") and item.text[1:] for item in part):
                 continue
-            for one, two in zip(part[1:], part[2:]):
+            for one, two in zip(part[1:], part[2:]) if part[0].text not in COMMUTE else ():
                 if text[slice(*span([one]))] != text[slice(*span([two]))]:
                     yield one.start, two.end, text[two.start:two.end] + text[one.end:two.start] + text[one.start:one.end]
 
@@ -260,6 +264,7 @@ def row_changes(text, path):
 
 
 def wrong_definitions():
+    """All of them, and for each file one that is right: the tables must let it through."""
     out, seen = [], Counter()
 
     def add(path, start, end, new, definition, change):
@@ -276,6 +281,7 @@ def wrong_definitions():
             path = os.path.join(crate, "specs", file)
             with open(os.path.join(TOP, path), encoding="utf8") as source:
                 text = source.read()
+            out.append(Wrong(path, 0, 0, "", file[:-5] + UNCHANGED))
             for definition, tokens in definitions(text):
                 held = set()
                 for token, new in word_changes(tokens):
@@ -308,6 +314,10 @@ def wrong_definitions():
 MODULE = re.compile(r"Rattle·(?:numbers|methodology)(?:·specs|·proofs)?\.(specs|proofs)\.(\w+)")
 
 
+def module_of(wrong):
+    return os.path.basename(wrong.file)[:-5]
+
+
 class Modules:
     """The definitions and a table, all in one crate, by name: folder and text."""
     def __init__(self, table):
@@ -323,13 +333,16 @@ class Modules:
         for name, text in self.text.items():
             self.uses[name] = {used for _, used in MODULE.findall(text)} & set(self.text)
 
+        self.below = {table} | {name for name in self.text if not table}
+        for _ in self.text:
+            self.below |= {used for name in self.below & set(self.text) for used in self.uses[name]}
+
     def resting_on(self, name):
         """A module with all that rest on it and that the table rests on; without a table itself alone."""
-        found, needed = {name}, {self.table}
-        for _ in self.text:
+        found = {name}
+        for _ in self.text if self.table else ():
             found |= {other for other in self.text if self.uses[other] & found}
-            needed |= {used for other in needed & set(self.text) for used in self.uses[other]}
-        return found & needed | {name}
+        return found & self.below
 
     def written(self, place, names, mark, texts):
         """Writes these modules under names that begin with the mark, which they use among each
@@ -352,13 +365,12 @@ def checked(modules, wrongs):
         shutil.copy(os.path.join(TOP, "methodology", "src", "lib.rt"), os.path.join(place, "src"))
         listed, marks = [], {}
         for number, wrong in enumerate(wrongs):
-            name, mark = os.path.basename(wrong.file)[:-5], f"W{number}x"
+            name, mark = module_of(wrong), f"W{number}x"
             text = modules.text[name]
             changed = with_names(text[:wrong.start] + wrong.new + text[wrong.end:], wrong.new)
             listed += modules.written(place, modules.resting_on(name), mark, {name: changed})
             marks[mark] = wrong
-        listed += modules.written(place, [name for name in modules.text if modules.folder[name] == "specs"
-                                          or not wrongs], "", {})
+        listed += modules.written(place, [name for name in modules.text if name != modules.table], "", {})
         for folder in ("specs", "proofs"):
             with open(os.path.join(place, folder, "Lib.antt"), "w") as file:
                 file.write("".join(f"pub mod {name}\n" for where, name in listed if where == folder))
@@ -368,7 +380,7 @@ def checked(modules, wrongs):
     if done.returncode not in (0, 1):
         return None
     errors = re.findall(r"/(specs|proofs)/(W\d+x)?(\w+)\.antt:\d+:\d+: error", said)
-    if any(not mark for _, mark, _ in errors) or not wrongs and done.returncode:
+    if any(not mark for _, mark, _ in errors):
         raise SystemExit("the right definitions are refused:\n" + said)
     verdicts = []
     for mark, wrong in marks.items():
@@ -428,7 +440,7 @@ def main():
     parser.add_argument("--jobs", type=int, default=2)
     parser.add_argument("--list", action="store_true")
     given = parser.parse_args()
-    wrong = [w for w in wrong_definitions() if given.only in w.name]
+    wrong = [w for w in wrong_definitions() if given.only in w.name or w.name.endswith(UNCHANGED)]
     if given.list:
         print("\n".join(w.name for w in wrong))
         print(len(wrong))
@@ -436,17 +448,23 @@ def main():
     same, count, left = known(), Counter(), []
     with multiprocessing.Pool(given.jobs) as pool:
         for table, size in STAGES:
-            modules, through = Modules(table), []
-            checked(modules, [])
-            batches = [wrong[i:i + size] for i in range(0, len(wrong), size)]
+            modules = Modules(table)
+            asked = [one for one in wrong if module_of(one) in modules.below]
+            through = [one for one in wrong if module_of(one) not in modules.below]
+            batches = [asked[i:i + size] for i in range(0, len(asked), size)]
             for verdicts in pool.imap_unordered(judged, [(modules, batch) for batch in batches]):
                 for one, verdict in verdicts:
+                    if one.name.endswith(UNCHANGED) and verdict != "let through":
+                        raise SystemExit(f"the right definitions are refused: {one.name}, {verdict}")
                     if verdict == "let through":
                         through.append(one)
                     else:
                         count[verdict] += 1
             wrong = through
+            print(f"{table or 'no table'}: {len(wrong)} let through", file=sys.stderr, flush=True)
     for one in wrong:
+        if one.name.endswith(UNCHANGED):
+            continue
         if one.name in same:
             count["says the same"] += 1
         else:

@@ -4,14 +4,15 @@ use mathlib.Core.Path.{_≡_, refl}
 use mathlib.Core.List.{List, [], _∷_, _++_, map}
 use Prim.Native.Nat.{ℕ, suc, _+_, _-_, _*_, _<_, min}
 use native.Mathlib.Omega.{arith}
+use lib.Dec.{ltb}
 use lib.IntN.{ℤ, pos}
 use lib.ListN.{length, getD}
 use Rattle.numbers.specs.Fractions.{Fraction, _over_, Proper, _≼_, _≺_}
-use Rattle.numbers.specs.Lists.{Every}
+use Rattle.numbers.specs.Lists.{Every, firstWhere}
 use Rattle.methodology.specs.Account.{Opening, DayInput, members, accounts, nobody, headingAt}
 use Rattle.methodology.specs.Member.{memberUnder, memberOwn}
 use Rattle.methodology.specs.Day.{total, maxEul, dailies}
-use Rattle.methodology.specs.Contribution.{exactCharge, allowance, shortfall}
+use Rattle.methodology.specs.Contribution.{KeptDay, exactCharge, allowance, shortfall}
 use Rattle.methodology.specs.Register.{Register, start, opening, day, closing, step, buffer}
 use Rattle.methodology.proofs.Samples.{computed, H, R, A, U, Line, acct, minus, losing, dayOf}
 
@@ -157,6 +158,14 @@ worst-last =
     ∷ (pos 400000000 ∷ pos 200000000 ∷ [])
     ∷ []
 
+-- a day on which two members lose 6 and 2
+abbrev stressed : KeptDay
+stressed =
+    record {
+      number = 1;
+      accounts = accounts 1 (dayOf 1 (acct 1 0 H (pos 10) 0 0 (pos 4 ∷ []) ∷ acct 2 0 H (pos 5) 0 0 (pos 3 ∷ []) ∷ []));
+    }
+
 pub exact-cases : List Case
 exact-cases =
     -- 9: the exact charge is 73,333,333 and a third
@@ -167,6 +176,9 @@ exact-cases =
     -- three days, by hand: 11 · 400m / 30 of 400/600 + 100/400 + 70/100, and of 200/600 + 300/400 + 30/100
     ∷ exact worst-first (groups (0 ∷ 0 ∷ [])) 1 is-fraction 2134000000 over 9
     ∷ exact worst-last (groups (0 ∷ 0 ∷ [])) 2 is-fraction 1826000000 over 9
+    -- one scenario, under which the stresses are not 0: 11 · 6 / 10 of 6/8, and of 2/8
+    ∷ exactCharge (groups (0 ∷ 0 ∷ [])) (stressed ∷ []) 1 is-fraction 99 over 20
+    ∷ exactCharge (groups (0 ∷ 0 ∷ [])) (stressed ∷ []) 2 is-fraction 33 over 20
     -- the allowance is 1 dollar where M is 0, 1 and 1.1 dollars where it is 10^12, and in the printed month 1.000429 dollars
     ∷ allowance 0 is-fraction 1 over 1
     ∷ allowance 1000000000000 is-fraction 21 over 10
@@ -206,9 +218,11 @@ orders = (
   (λ h. omega (arith, h .1 .0)),
 )
 
--- A heading of three columns of numbers, and past their end.
-pub headings-worked :
+-- Words of the definitions where no answer shows them: a heading of three columns of numbers, and past their end; no element that passes.
+pub words :
     (headingAt (1 ∷ 2 ∷ []) (3 ∷ 4 ∷ []) (5 ∷ 6 ∷ []) 1 ≡ record { member = 2; number = 4; kind = 6 })
     × (headingAt (1 ∷ 2 ∷ []) (3 ∷ 4 ∷ []) (5 ∷ 6 ∷ []) 2 ≡ nobody)
     × (nobody ≡ record { member = 0; number = 0; kind = 0 })
-headings-worked = (refl, refl, refl)
+    × (firstWhere (ltb 2) (1 ∷ 2 ∷ []) ≡ 2)
+unfolding firstWhere
+words = (refl, refl, refl, refl)

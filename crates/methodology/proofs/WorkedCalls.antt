@@ -7,7 +7,9 @@ use mathlib.Core.List.{List, [], _∷_, _++_, map}
 use Prim.Native.Nat.{ℕ}
 use lib.IntN.{ℤ, pos}
 use lib.ListN.{drop, replicate}
-use Rattle.methodology.specs.Register.{Call, opening, day, closing, start, accepted, refused, refusedAt}
+use Rattle.methodology.specs.declared.Status.the-variants.{Fresh, Open, Closed}
+use Rattle.methodology.specs.Account.{Opening}
+use Rattle.methodology.specs.Register.{Call, opening, day, closing, Register, start, step, accepted, refused, refusedAt}
 use Rattle.methodology.proofs.Samples.{computed, H, R, A, U, Line, acct, minus, losing, dayOf, brings, Exchange, _gets_, _gets_writing_, played}
 
 -- the printed month
@@ -266,6 +268,38 @@ every-kind =
     writing (97 ∷ 1000000000000 ∷ 9700 ∷ 10670 ∷ 21340 ∷ [])
     ∷ []
 
+-- Two groups whose members are not next to each other. On day 1 Max EUL is member 3's, above the sum of its group, since its Affiliate is
+-- covered; on day 2 it is the other group's sum.
+abbrev two-groups : List Exchange
+two-groups =
+    brings 4 1 (7 ∷ 5 ∷ 7 ∷ 5 ∷ []) gets accepted []
+    ∷ day
+    (dayOf 1 (losing 1 0 H (minus 30) ∷ losing 2 0 H (pos 20) ∷ losing 3 0 H (pos 100) ∷ losing 4 0 H (pos 60) ∷ []))
+    20
+    gets accepted (180 ∷ 100 ∷ [])
+    writing (0 ∷ 0 ∷ 0 ∷ 0 ∷ 0
+    ∷ 20 ∷ 111111111112 ∷ 1111 ∷ 1222 ∷ 2444
+    ∷ 100 ∷ 555555555556 ∷ 5556 ∷ 6111 ∷ 12222
+    ∷ 60 ∷ 333333333334 ∷ 3333 ∷ 3667 ∷ 7333
+    ∷ [])
+    ∷ day
+    (dayOf 2 (losing 1 0 H (pos 40) ∷ losing 2 0 H (pos 20) ∷ losing 3 0 H (pos 30) ∷ losing 4 0 H (pos 60) ∷ []))
+    20
+    gets accepted (150 ∷ 80 ∷ [])
+    writing (40 ∷ 266666666667 ∷ 2133 ∷ 2347 ∷ 4693
+    ∷ 20 ∷ 133333333334 ∷ 1067 ∷ 1173 ∷ 2347
+    ∷ 30 ∷ 200000000000 ∷ 1600 ∷ 1760 ∷ 3520
+    ∷ 60 ∷ 400000000000 ∷ 3200 ∷ 3520 ∷ 7040
+    ∷ [])
+    ∷ closing 12
+    gets accepted (2 ∷ 100 ∷ 200000000 ∷ [])
+    writing (15 ∷ 50000000 ∷ 100000000
+    ∷ 14 ∷ 50000000 ∷ 100000000
+    ∷ 42 ∷ 50000000 ∷ 100000000
+    ∷ 41 ∷ 50000000 ∷ 100000000
+    ∷ [])
+    ∷ []
+
 -- each list of calls starts from a fresh register
 pub lists : List (List Exchange)
 lists =
@@ -275,8 +309,28 @@ lists =
     ∷ three-days least middling worst
     ∷ (while-fresh ++ (while-open ++ while-closed))
     ∷ every-kind
+    ∷ two-groups
     ∷ opened-at-limits
 
 pub worked-calls : map (played start) lists ≡ lists
 unfolding lists played computed
 worked-calls = refl
+
+-- What the register holds at the start and after an opening, a day and a closing. No answer tells fresh from closed, or has to do with what
+-- is held before the first opening; document 01 says it all the same.
+abbrev held-two : Opening
+held-two = record { n = 2; k = 1; groups = 0 ∷ 0 ∷ [] }
+
+abbrev opened : Register
+opened = step start (opening held-two)
+
+abbrev sized : Register
+sized = step opened (two-lose 5 400000000 200000000)
+
+pub registers :
+    (start ≡ record { status = Fresh; held = record { n = 0; k = 0; groups = [] }; days = [] })
+    × (opened ≡ record { status = Open; held = held-two; days = [] })
+    × (map (λ d. d .number) (sized .days) ≡ 5 ∷ [])
+    × (step sized (closing 6) ≡ record { status = Closed; held = held-two; days = sized .days })
+unfolding computed
+registers = (refl, refl, refl, refl)
