@@ -130,6 +130,8 @@ Text.badBytes | any (ltb 127) line | ltb 127 (getD line 0 0)
 Text.numbersAfter | same (getD (fields line) 0 []) word | eqb (length (getD (fields line) 0 [])) (length word)
 Text.numbersAfter | same (getD (fields line) 0 []) word | same (take (length word) line) word
 Text.accountOf | same (getD fs 0 []) (bytes "acct") | eqb (length (getD fs 0 [])) 4
+Text.accountOf | same (getD fs 0 []) (bytes "acct") | same (take 4 line) (bytes "acct")
+Text.numbersAfter | same (getD (fields line) 0 []) word | same (getD (fields line) 0 []) (take (length (getD (fields line) 0 [])) word)
 Text.readPeriod | cond (nOutside n || kOutside k) (ends (refusedLine 1 i)) | cond false (ends (refusedLine 1 i))
 Text.readLine | cond (same l (bytes "end")) | cond (same (take 3 l) (bytes "end"))
 Text.sized | goesOn (dayLines (step g (Call.day d room)) d room) (day (step g (Call.day d room))) | goesOn (dayLines (step g (Call.day d room)) d room) (day g)

@@ -1,11 +1,12 @@
 -- Worked texts with the reports that they must give: document 01's printed month, texts refused by every row that a text can meet, and
--- months with groups, clients and several days. All but six were worked out by others from document 01; the theorem computes them.
+-- months with groups, clients and several days. The reports were worked out from document 01 by recalculations of others; the theorem
+-- computes them.
 use mathlib.Core.Path.{_≡_, refl}
 use mathlib.Core.List.{List, [], _∷_, map}
 use mathlib.Core.Option.{some}
 use Prim.Native.String.{String}
 use lib.IntN.{pos}
-use Rattle.methodology.specs.Text.{goesOn, bad, account, bytes, same, onto, split, valueFrom, numberOf, below0, above0, signedOf, kindOf, also, everyField, badBytes, numbersAfter, accountBy, accountOf, digits, printed, rows, dayLines, fundLines, readPeriod, opened, readMember, readDay, sized, withAccount, readAccount, readLine, closed, atEnd, followedBy, reportFrom, reportOf}
+use Rattle.methodology.specs.Text.{goesOn, bad, account, bytes, same, onto, split, valueFrom, numberOf, below0, above0, signedOf, kindOf, also, everyField, badBytes, numbersAfter, accountBy, accountOf, digits, decimal, printed, rows, dayLines, fundLines, readPeriod, opened, readMember, readDay, sized, withAccount, readAccount, readLine, closed, atEnd, followedBy, reportFrom, reportOf}
 use Rattle.methodology.specs.Account.{DayInput}
 use Rattle.methodology.specs.Register.{Register, start}
 use Rattle.methodology.proofs.Samples.{computed}
@@ -288,6 +289,68 @@ texts =
     ∷ ("period\t32\t1\nmember\t1\t0\nmember\t2\t0\nmember\t3\t0\nmember\t4\t0\nmember\t5\t0\nmember\t6\t0\nmember\t7\t0\nmember\t8\t0\nmember\t9\t0\nmember\t10\t0\nmember\t11\t0\nmember\t12\t0\nmember\t13\t0\nmember\t14\t0\nmember\t15\t0\nmember\t16\t0\nmember\t17\t0\nmember\t18\t0\nmember\t19\t0\nmember\t20\t0\nmember\t21\t0\nmember\t22\t0\nmember\t23\t0\nmember\t24\t0\nmember\t25\t0\nmember\t26\t0\nmember\t27\t0\nmember\t28\t0\nmember\t29\t0\nmember\t30\t0\nmember\t31\t32\nmember\t32\t32\nday\t31\t32\nacct\t1\t0\tH\t1\t0\t0\t0\nacct\t2\t0\tH\t1\t0\t0\t0\nacct\t3\t0\tH\t1\t0\t0\t0\nacct\t4\t0\tH\t1\t0\t0\t0\nacct\t5\t0\tH\t1\t0\t0\t0\nacct\t6\t0\tH\t1\t0\t0\t0\nacct\t7\t0\tH\t1\t0\t0\t0\nacct\t8\t0\tH\t1\t0\t0\t0\nacct\t9\t0\tH\t1\t0\t0\t0\nacct\t10\t0\tH\t1\t0\t0\t0\nacct\t11\t0\tH\t1\t0\t0\t0\nacct\t12\t0\tH\t1\t0\t0\t0\nacct\t13\t0\tH\t1\t0\t0\t0\nacct\t14\t0\tH\t1\t0\t0\t0\nacct\t15\t0\tH\t1\t0\t0\t0\nacct\t16\t0\tH\t1\t0\t0\t0\nacct\t17\t0\tH\t1\t0\t0\t0\nacct\t18\t0\tH\t1\t0\t0\t0\nacct\t19\t0\tH\t1\t0\t0\t0\nacct\t20\t0\tH\t1\t0\t0\t0\nacct\t21\t0\tH\t1\t0\t0\t0\nacct\t22\t0\tH\t1\t0\t0\t0\nacct\t23\t0\tH\t1\t0\t0\t0\nacct\t24\t0\tH\t1\t0\t0\t0\nacct\t25\t0\tH\t1\t0\t0\t0\nacct\t26\t0\tH\t1\t0\t0\t0\nacct\t27\t0\tH\t1\t0\t0\t0\nacct\t28\t0\tH\t1\t0\t0\t0\nacct\t29\t0\tH\t1\t0\t0\t0\nacct\t30\t0\tH\t1\t0\t0\t0\nacct\t31\t0\tH\t1\t0\t0\t0\nacct\t32\t0\tH\t9\t0\t0\t0\nend\n" gives "day\t31\t40\t10\ndaily\t1\t1\t25000000000\t25\t28\t55\ndaily\t2\t1\t25000000000\t25\t28\t55\ndaily\t3\t1\t25000000000\t25\t28\t55\ndaily\t4\t1\t25000000000\t25\t28\t55\ndaily\t5\t1\t25000000000\t25\t28\t55\ndaily\t6\t1\t25000000000\t25\t28\t55\ndaily\t7\t1\t25000000000\t25\t28\t55\ndaily\t8\t1\t25000000000\t25\t28\t55\ndaily\t9\t1\t25000000000\t25\t28\t55\ndaily\t10\t1\t25000000000\t25\t28\t55\ndaily\t11\t1\t25000000000\t25\t28\t55\ndaily\t12\t1\t25000000000\t25\t28\t55\ndaily\t13\t1\t25000000000\t25\t28\t55\ndaily\t14\t1\t25000000000\t25\t28\t55\ndaily\t15\t1\t25000000000\t25\t28\t55\ndaily\t16\t1\t25000000000\t25\t28\t55\ndaily\t17\t1\t25000000000\t25\t28\t55\ndaily\t18\t1\t25000000000\t25\t28\t55\ndaily\t19\t1\t25000000000\t25\t28\t55\ndaily\t20\t1\t25000000000\t25\t28\t55\ndaily\t21\t1\t25000000000\t25\t28\t55\ndaily\t22\t1\t25000000000\t25\t28\t55\ndaily\t23\t1\t25000000000\t25\t28\t55\ndaily\t24\t1\t25000000000\t25\t28\t55\ndaily\t25\t1\t25000000000\t25\t28\t55\ndaily\t26\t1\t25000000000\t25\t28\t55\ndaily\t27\t1\t25000000000\t25\t28\t55\ndaily\t28\t1\t25000000000\t25\t28\t55\ndaily\t29\t1\t25000000000\t25\t28\t55\ndaily\t30\t1\t25000000000\t25\t28\t55\ndaily\t31\t1\t25000000000\t25\t28\t55\ndaily\t32\t9\t225000000000\t225\t248\t495\nfund\t1\t10\t1600000000\ncontribution\t1\t1\t50000000\t100000000\ncontribution\t2\t1\t50000000\t100000000\ncontribution\t3\t1\t50000000\t100000000\ncontribution\t4\t1\t50000000\t100000000\ncontribution\t5\t1\t50000000\t100000000\ncontribution\t6\t1\t50000000\t100000000\ncontribution\t7\t1\t50000000\t100000000\ncontribution\t8\t1\t50000000\t100000000\ncontribution\t9\t1\t50000000\t100000000\ncontribution\t10\t1\t50000000\t100000000\ncontribution\t11\t1\t50000000\t100000000\ncontribution\t12\t1\t50000000\t100000000\ncontribution\t13\t1\t50000000\t100000000\ncontribution\t14\t1\t50000000\t100000000\ncontribution\t15\t1\t50000000\t100000000\ncontribution\t16\t1\t50000000\t100000000\ncontribution\t17\t1\t50000000\t100000000\ncontribution\t18\t1\t50000000\t100000000\ncontribution\t19\t1\t50000000\t100000000\ncontribution\t20\t1\t50000000\t100000000\ncontribution\t21\t1\t50000000\t100000000\ncontribution\t22\t1\t50000000\t100000000\ncontribution\t23\t1\t50000000\t100000000\ncontribution\t24\t1\t50000000\t100000000\ncontribution\t25\t1\t50000000\t100000000\ncontribution\t26\t1\t50000000\t100000000\ncontribution\t27\t1\t50000000\t100000000\ncontribution\t28\t1\t50000000\t100000000\ncontribution\t29\t1\t50000000\t100000000\ncontribution\t30\t1\t50000000\t100000000\ncontribution\t31\t1\t50000000\t100000000\ncontribution\t32\t3\t50000000\t100000000\n")
     -- 5 at account 255
     ∷ ("period\t1\t1\nmember\t1\t0\nday\t1\t256\nacct\t1\t0\tH\t1\t0\t0\t0\nacct\t1\t1\tU\t1\t0\t0\t0\nacct\t1\t2\tU\t1\t0\t0\t0\nacct\t1\t3\tU\t1\t0\t0\t0\nacct\t1\t4\tU\t1\t0\t0\t0\nacct\t1\t5\tU\t1\t0\t0\t0\nacct\t1\t6\tU\t1\t0\t0\t0\nacct\t1\t7\tU\t1\t0\t0\t0\nacct\t1\t8\tU\t1\t0\t0\t0\nacct\t1\t9\tU\t1\t0\t0\t0\nacct\t1\t10\tU\t1\t0\t0\t0\nacct\t1\t11\tU\t1\t0\t0\t0\nacct\t1\t12\tU\t1\t0\t0\t0\nacct\t1\t13\tU\t1\t0\t0\t0\nacct\t1\t14\tU\t1\t0\t0\t0\nacct\t1\t15\tU\t1\t0\t0\t0\nacct\t1\t16\tU\t1\t0\t0\t0\nacct\t1\t17\tU\t1\t0\t0\t0\nacct\t1\t18\tU\t1\t0\t0\t0\nacct\t1\t19\tU\t1\t0\t0\t0\nacct\t1\t20\tU\t1\t0\t0\t0\nacct\t1\t21\tU\t1\t0\t0\t0\nacct\t1\t22\tU\t1\t0\t0\t0\nacct\t1\t23\tU\t1\t0\t0\t0\nacct\t1\t24\tU\t1\t0\t0\t0\nacct\t1\t25\tU\t1\t0\t0\t0\nacct\t1\t26\tU\t1\t0\t0\t0\nacct\t1\t27\tU\t1\t0\t0\t0\nacct\t1\t28\tU\t1\t0\t0\t0\nacct\t1\t29\tU\t1\t0\t0\t0\nacct\t1\t30\tU\t1\t0\t0\t0\nacct\t1\t31\tU\t1\t0\t0\t0\nacct\t1\t32\tU\t1\t0\t0\t0\nacct\t1\t33\tU\t1\t0\t0\t0\nacct\t1\t34\tU\t1\t0\t0\t0\nacct\t1\t35\tU\t1\t0\t0\t0\nacct\t1\t36\tU\t1\t0\t0\t0\nacct\t1\t37\tU\t1\t0\t0\t0\nacct\t1\t38\tU\t1\t0\t0\t0\nacct\t1\t39\tU\t1\t0\t0\t0\nacct\t1\t40\tU\t1\t0\t0\t0\nacct\t1\t41\tU\t1\t0\t0\t0\nacct\t1\t42\tU\t1\t0\t0\t0\nacct\t1\t43\tU\t1\t0\t0\t0\nacct\t1\t44\tU\t1\t0\t0\t0\nacct\t1\t45\tU\t1\t0\t0\t0\nacct\t1\t46\tU\t1\t0\t0\t0\nacct\t1\t47\tU\t1\t0\t0\t0\nacct\t1\t48\tU\t1\t0\t0\t0\nacct\t1\t49\tU\t1\t0\t0\t0\nacct\t1\t50\tU\t1\t0\t0\t0\nacct\t1\t51\tU\t1\t0\t0\t0\nacct\t1\t52\tU\t1\t0\t0\t0\nacct\t1\t53\tU\t1\t0\t0\t0\nacct\t1\t54\tU\t1\t0\t0\t0\nacct\t1\t55\tU\t1\t0\t0\t0\nacct\t1\t56\tU\t1\t0\t0\t0\nacct\t1\t57\tU\t1\t0\t0\t0\nacct\t1\t58\tU\t1\t0\t0\t0\nacct\t1\t59\tU\t1\t0\t0\t0\nacct\t1\t60\tU\t1\t0\t0\t0\nacct\t1\t61\tU\t1\t0\t0\t0\nacct\t1\t62\tU\t1\t0\t0\t0\nacct\t1\t63\tU\t1\t0\t0\t0\nacct\t1\t64\tU\t1\t0\t0\t0\nacct\t1\t65\tU\t1\t0\t0\t0\nacct\t1\t66\tU\t1\t0\t0\t0\nacct\t1\t67\tU\t1\t0\t0\t0\nacct\t1\t68\tU\t1\t0\t0\t0\nacct\t1\t69\tU\t1\t0\t0\t0\nacct\t1\t70\tU\t1\t0\t0\t0\nacct\t1\t71\tU\t1\t0\t0\t0\nacct\t1\t72\tU\t1\t0\t0\t0\nacct\t1\t73\tU\t1\t0\t0\t0\nacct\t1\t74\tU\t1\t0\t0\t0\nacct\t1\t75\tU\t1\t0\t0\t0\nacct\t1\t76\tU\t1\t0\t0\t0\nacct\t1\t77\tU\t1\t0\t0\t0\nacct\t1\t78\tU\t1\t0\t0\t0\nacct\t1\t79\tU\t1\t0\t0\t0\nacct\t1\t80\tU\t1\t0\t0\t0\nacct\t1\t81\tU\t1\t0\t0\t0\nacct\t1\t82\tU\t1\t0\t0\t0\nacct\t1\t83\tU\t1\t0\t0\t0\nacct\t1\t84\tU\t1\t0\t0\t0\nacct\t1\t85\tU\t1\t0\t0\t0\nacct\t1\t86\tU\t1\t0\t0\t0\nacct\t1\t87\tU\t1\t0\t0\t0\nacct\t1\t88\tU\t1\t0\t0\t0\nacct\t1\t89\tU\t1\t0\t0\t0\nacct\t1\t90\tU\t1\t0\t0\t0\nacct\t1\t91\tU\t1\t0\t0\t0\nacct\t1\t92\tU\t1\t0\t0\t0\nacct\t1\t93\tU\t1\t0\t0\t0\nacct\t1\t94\tU\t1\t0\t0\t0\nacct\t1\t95\tU\t1\t0\t0\t0\nacct\t1\t96\tU\t1\t0\t0\t0\nacct\t1\t97\tU\t1\t0\t0\t0\nacct\t1\t98\tU\t1\t0\t0\t0\nacct\t1\t99\tU\t1\t0\t0\t0\nacct\t1\t100\tU\t1\t0\t0\t0\nacct\t1\t101\tU\t1\t0\t0\t0\nacct\t1\t102\tU\t1\t0\t0\t0\nacct\t1\t103\tU\t1\t0\t0\t0\nacct\t1\t104\tU\t1\t0\t0\t0\nacct\t1\t105\tU\t1\t0\t0\t0\nacct\t1\t106\tU\t1\t0\t0\t0\nacct\t1\t107\tU\t1\t0\t0\t0\nacct\t1\t108\tU\t1\t0\t0\t0\nacct\t1\t109\tU\t1\t0\t0\t0\nacct\t1\t110\tU\t1\t0\t0\t0\nacct\t1\t111\tU\t1\t0\t0\t0\nacct\t1\t112\tU\t1\t0\t0\t0\nacct\t1\t113\tU\t1\t0\t0\t0\nacct\t1\t114\tU\t1\t0\t0\t0\nacct\t1\t115\tU\t1\t0\t0\t0\nacct\t1\t116\tU\t1\t0\t0\t0\nacct\t1\t117\tU\t1\t0\t0\t0\nacct\t1\t118\tU\t1\t0\t0\t0\nacct\t1\t119\tU\t1\t0\t0\t0\nacct\t1\t120\tU\t1\t0\t0\t0\nacct\t1\t121\tU\t1\t0\t0\t0\nacct\t1\t122\tU\t1\t0\t0\t0\nacct\t1\t123\tU\t1\t0\t0\t0\nacct\t1\t124\tU\t1\t0\t0\t0\nacct\t1\t125\tU\t1\t0\t0\t0\nacct\t1\t126\tU\t1\t0\t0\t0\nacct\t1\t127\tU\t1\t0\t0\t0\nacct\t1\t128\tU\t1\t0\t0\t0\nacct\t1\t129\tU\t1\t0\t0\t0\nacct\t1\t130\tU\t1\t0\t0\t0\nacct\t1\t131\tU\t1\t0\t0\t0\nacct\t1\t132\tU\t1\t0\t0\t0\nacct\t1\t133\tU\t1\t0\t0\t0\nacct\t1\t134\tU\t1\t0\t0\t0\nacct\t1\t135\tU\t1\t0\t0\t0\nacct\t1\t136\tU\t1\t0\t0\t0\nacct\t1\t137\tU\t1\t0\t0\t0\nacct\t1\t138\tU\t1\t0\t0\t0\nacct\t1\t139\tU\t1\t0\t0\t0\nacct\t1\t140\tU\t1\t0\t0\t0\nacct\t1\t141\tU\t1\t0\t0\t0\nacct\t1\t142\tU\t1\t0\t0\t0\nacct\t1\t143\tU\t1\t0\t0\t0\nacct\t1\t144\tU\t1\t0\t0\t0\nacct\t1\t145\tU\t1\t0\t0\t0\nacct\t1\t146\tU\t1\t0\t0\t0\nacct\t1\t147\tU\t1\t0\t0\t0\nacct\t1\t148\tU\t1\t0\t0\t0\nacct\t1\t149\tU\t1\t0\t0\t0\nacct\t1\t150\tU\t1\t0\t0\t0\nacct\t1\t151\tU\t1\t0\t0\t0\nacct\t1\t152\tU\t1\t0\t0\t0\nacct\t1\t153\tU\t1\t0\t0\t0\nacct\t1\t154\tU\t1\t0\t0\t0\nacct\t1\t155\tU\t1\t0\t0\t0\nacct\t1\t156\tU\t1\t0\t0\t0\nacct\t1\t157\tU\t1\t0\t0\t0\nacct\t1\t158\tU\t1\t0\t0\t0\nacct\t1\t159\tU\t1\t0\t0\t0\nacct\t1\t160\tU\t1\t0\t0\t0\nacct\t1\t161\tU\t1\t0\t0\t0\nacct\t1\t162\tU\t1\t0\t0\t0\nacct\t1\t163\tU\t1\t0\t0\t0\nacct\t1\t164\tU\t1\t0\t0\t0\nacct\t1\t165\tU\t1\t0\t0\t0\nacct\t1\t166\tU\t1\t0\t0\t0\nacct\t1\t167\tU\t1\t0\t0\t0\nacct\t1\t168\tU\t1\t0\t0\t0\nacct\t1\t169\tU\t1\t0\t0\t0\nacct\t1\t170\tU\t1\t0\t0\t0\nacct\t1\t171\tU\t1\t0\t0\t0\nacct\t1\t172\tU\t1\t0\t0\t0\nacct\t1\t173\tU\t1\t0\t0\t0\nacct\t1\t174\tU\t1\t0\t0\t0\nacct\t1\t175\tU\t1\t0\t0\t0\nacct\t1\t176\tU\t1\t0\t0\t0\nacct\t1\t177\tU\t1\t0\t0\t0\nacct\t1\t178\tU\t1\t0\t0\t0\nacct\t1\t179\tU\t1\t0\t0\t0\nacct\t1\t180\tU\t1\t0\t0\t0\nacct\t1\t181\tU\t1\t0\t0\t0\nacct\t1\t182\tU\t1\t0\t0\t0\nacct\t1\t183\tU\t1\t0\t0\t0\nacct\t1\t184\tU\t1\t0\t0\t0\nacct\t1\t185\tU\t1\t0\t0\t0\nacct\t1\t186\tU\t1\t0\t0\t0\nacct\t1\t187\tU\t1\t0\t0\t0\nacct\t1\t188\tU\t1\t0\t0\t0\nacct\t1\t189\tU\t1\t0\t0\t0\nacct\t1\t190\tU\t1\t0\t0\t0\nacct\t1\t191\tU\t1\t0\t0\t0\nacct\t1\t192\tU\t1\t0\t0\t0\nacct\t1\t193\tU\t1\t0\t0\t0\nacct\t1\t194\tU\t1\t0\t0\t0\nacct\t1\t195\tU\t1\t0\t0\t0\nacct\t1\t196\tU\t1\t0\t0\t0\nacct\t1\t197\tU\t1\t0\t0\t0\nacct\t1\t198\tU\t1\t0\t0\t0\nacct\t1\t199\tU\t1\t0\t0\t0\nacct\t1\t200\tU\t1\t0\t0\t0\nacct\t1\t201\tU\t1\t0\t0\t0\nacct\t1\t202\tU\t1\t0\t0\t0\nacct\t1\t203\tU\t1\t0\t0\t0\nacct\t1\t204\tU\t1\t0\t0\t0\nacct\t1\t205\tU\t1\t0\t0\t0\nacct\t1\t206\tU\t1\t0\t0\t0\nacct\t1\t207\tU\t1\t0\t0\t0\nacct\t1\t208\tU\t1\t0\t0\t0\nacct\t1\t209\tU\t1\t0\t0\t0\nacct\t1\t210\tU\t1\t0\t0\t0\nacct\t1\t211\tU\t1\t0\t0\t0\nacct\t1\t212\tU\t1\t0\t0\t0\nacct\t1\t213\tU\t1\t0\t0\t0\nacct\t1\t214\tU\t1\t0\t0\t0\nacct\t1\t215\tU\t1\t0\t0\t0\nacct\t1\t216\tU\t1\t0\t0\t0\nacct\t1\t217\tU\t1\t0\t0\t0\nacct\t1\t218\tU\t1\t0\t0\t0\nacct\t1\t219\tU\t1\t0\t0\t0\nacct\t1\t220\tU\t1\t0\t0\t0\nacct\t1\t221\tU\t1\t0\t0\t0\nacct\t1\t222\tU\t1\t0\t0\t0\nacct\t1\t223\tU\t1\t0\t0\t0\nacct\t1\t224\tU\t1\t0\t0\t0\nacct\t1\t225\tU\t1\t0\t0\t0\nacct\t1\t226\tU\t1\t0\t0\t0\nacct\t1\t227\tU\t1\t0\t0\t0\nacct\t1\t228\tU\t1\t0\t0\t0\nacct\t1\t229\tU\t1\t0\t0\t0\nacct\t1\t230\tU\t1\t0\t0\t0\nacct\t1\t231\tU\t1\t0\t0\t0\nacct\t1\t232\tU\t1\t0\t0\t0\nacct\t1\t233\tU\t1\t0\t0\t0\nacct\t1\t234\tU\t1\t0\t0\t0\nacct\t1\t235\tU\t1\t0\t0\t0\nacct\t1\t236\tU\t1\t0\t0\t0\nacct\t1\t237\tU\t1\t0\t0\t0\nacct\t1\t238\tU\t1\t0\t0\t0\nacct\t1\t239\tU\t1\t0\t0\t0\nacct\t1\t240\tU\t1\t0\t0\t0\nacct\t1\t241\tU\t1\t0\t0\t0\nacct\t1\t242\tU\t1\t0\t0\t0\nacct\t1\t243\tU\t1\t0\t0\t0\nacct\t1\t244\tU\t1\t0\t0\t0\nacct\t1\t245\tU\t1\t0\t0\t0\nacct\t1\t246\tU\t1\t0\t0\t0\nacct\t1\t247\tU\t1\t0\t0\t0\nacct\t1\t248\tU\t1\t0\t0\t0\nacct\t1\t249\tU\t1\t0\t0\t0\nacct\t1\t250\tU\t1\t0\t0\t0\nacct\t1\t251\tU\t1\t0\t0\t0\nacct\t1\t252\tU\t1\t0\t0\t0\nacct\t1\t253\tU\t1\t0\t0\t0\nacct\t1\t254\tU\t1\t0\t0\t0\nacct\t1\t65536\tU\t1\t0\t0\t0\nend\n" gives "refused\t5\t259\n")
+    -- a period line of 1 field
+    ∷ ("period\t2\nmember\t1\t0\nmember\t2\t0\nday\t3\t2\nacct\t1\t0\tH\t390000000\t0\t0\t0\nacct\t2\t0\tH\t10000000\t0\t0\t0\nend\n" gives "refused\t9\t1\n")
+    -- a period line of 0 fields
+    ∷ ("period\nmember\t1\t0\nmember\t2\t0\nday\t3\t2\nacct\t1\t0\tH\t390000000\t0\t0\t0\nacct\t2\t0\tH\t10000000\t0\t0\t0\nend\n" gives "refused\t9\t1\n")
+    -- a period line of 3 fields
+    ∷ ("period\t2\t1\t0\nmember\t1\t0\nmember\t2\t0\nday\t3\t2\nacct\t1\t0\tH\t390000000\t0\t0\t0\nacct\t2\t0\tH\t10000000\t0\t0\t0\nend\n" gives "refused\t9\t1\n")
+    -- a member line of 1 field
+    ∷ ("period\t2\t1\nmember\t1\nmember\t2\t0\nday\t3\t2\nacct\t1\t0\tH\t390000000\t0\t0\t0\nacct\t2\t0\tH\t10000000\t0\t0\t0\nend\n" gives "refused\t9\t2\n")
+    -- a member line of 0 fields
+    ∷ ("period\t2\t1\nmember\nmember\t2\t0\nday\t3\t2\nacct\t1\t0\tH\t390000000\t0\t0\t0\nacct\t2\t0\tH\t10000000\t0\t0\t0\nend\n" gives "refused\t9\t2\n")
+    -- a member line of 3 fields
+    ∷ ("period\t2\t1\nmember\t1\t0\t0\nmember\t2\t0\nday\t3\t2\nacct\t1\t0\tH\t390000000\t0\t0\t0\nacct\t2\t0\tH\t10000000\t0\t0\t0\nend\n" gives "refused\t9\t2\n")
+    -- a day line of 1 field
+    ∷ ("period\t2\t1\nmember\t1\t0\nmember\t2\t0\nday\t3\nacct\t1\t0\tH\t390000000\t0\t0\t0\nacct\t2\t0\tH\t10000000\t0\t0\t0\nend\n" gives "refused\t9\t4\n")
+    -- a day line of 0 fields
+    ∷ ("period\t2\t1\nmember\t1\t0\nmember\t2\t0\nday\nacct\t1\t0\tH\t390000000\t0\t0\t0\nacct\t2\t0\tH\t10000000\t0\t0\t0\nend\n" gives "refused\t9\t4\n")
+    -- a day line of 3 fields
+    ∷ ("period\t2\t1\nmember\t1\t0\nmember\t2\t0\nday\t3\t2\t0\nacct\t1\t0\tH\t390000000\t0\t0\t0\nacct\t2\t0\tH\t10000000\t0\t0\t0\nend\n" gives "refused\t9\t4\n")
+    -- perioD for a word
+    ∷ ("perioD\t2\t1\nmember\t1\t0\nmember\t2\t0\nday\t3\t2\nacct\t1\t0\tH\t390000000\t0\t0\t0\nacct\t2\t0\tH\t10000000\t0\t0\t0\nend\n" gives "refused\t9\t1\n")
+    -- perio for a word
+    ∷ ("perio\t2\t1\nmember\t1\t0\nmember\t2\t0\nday\t3\t2\nacct\t1\t0\tH\t390000000\t0\t0\t0\nacct\t2\t0\tH\t10000000\t0\t0\t0\nend\n" gives "refused\t9\t1\n")
+    -- membex for a word
+    ∷ ("period\t2\t1\nmembex\t1\t0\nmember\t2\t0\nday\t3\t2\nacct\t1\t0\tH\t390000000\t0\t0\t0\nacct\t2\t0\tH\t10000000\t0\t0\t0\nend\n" gives "refused\t9\t2\n")
+    -- membe for a word
+    ∷ ("period\t2\t1\nmembe\t1\t0\nmember\t2\t0\nday\t3\t2\nacct\t1\t0\tH\t390000000\t0\t0\t0\nacct\t2\t0\tH\t10000000\t0\t0\t0\nend\n" gives "refused\t9\t2\n")
+    -- dax for a word
+    ∷ ("period\t2\t1\nmember\t1\t0\nmember\t2\t0\ndax\t3\t2\nacct\t1\t0\tH\t390000000\t0\t0\t0\nacct\t2\t0\tH\t10000000\t0\t0\t0\nend\n" gives "refused\t9\t4\n")
+    -- da for a word
+    ∷ ("period\t2\t1\nmember\t1\t0\nmember\t2\t0\nda\t3\t2\nacct\t1\t0\tH\t390000000\t0\t0\t0\nacct\t2\t0\tH\t10000000\t0\t0\t0\nend\n" gives "refused\t9\t4\n")
+    -- accx for a word
+    ∷ ("period\t2\t1\nmember\t1\t0\nmember\t2\t0\nday\t3\t2\naccx\t1\t0\tH\t390000000\t0\t0\t0\nacct\t2\t0\tH\t10000000\t0\t0\t0\nend\n" gives "refused\t9\t5\n")
+    -- acc for a word
+    ∷ ("period\t2\t1\nmember\t1\t0\nmember\t2\t0\nday\t3\t2\nacc\t1\t0\tH\t390000000\t0\t0\t0\nacct\t2\t0\tH\t10000000\t0\t0\t0\nend\n" gives "refused\t9\t5\n")
+    -- enx for a word
+    ∷ ("period\t2\t1\nmember\t1\t0\nmember\t2\t0\nday\t3\t2\nacct\t1\t0\tH\t390000000\t0\t0\t0\nacct\t2\t0\tH\t10000000\t0\t0\t0\nenx\n" gives "day\t3\t400000000\t390000000\ndaily\t1\t390000000\t975000000000\t38025000000\t41827500000\t83655000000\ndaily\t2\t10000000\t25000000000\t975000000\t1072500000\t2145000000\nrefused\t9\t7\n")
+    -- en for a word
+    ∷ ("period\t2\t1\nmember\t1\t0\nmember\t2\t0\nday\t3\t2\nacct\t1\t0\tH\t390000000\t0\t0\t0\nacct\t2\t0\tH\t10000000\t0\t0\t0\nen\n" gives "day\t3\t400000000\t390000000\ndaily\t1\t390000000\t975000000000\t38025000000\t41827500000\t83655000000\ndaily\t2\t10000000\t25000000000\t975000000\t1072500000\t2145000000\nrefused\t9\t7\n")
+    -- k 17 before a bad member line
+    ∷ ("period\t2\t17\nx\n" gives "refused\t1\t1\n")
+    -- n 33 before a bad member line
+    ∷ ("period\t33\t1\nx\n" gives "refused\t1\t1\n")
+    -- k 17 and a group 33
+    ∷ ("period\t1\t17\nmember\t1\t33\nend\n" gives "refused\t1\t1\n")
+    -- count 0 at line 3
+    ∷ ("period\t1\t1\nmember\t1\t0\nday\t3\t0\nend\n" gives "refused\t4\t3\n")
+    -- count 257 on a second day
+    ∷ ("period\t1\t1\nmember\t1\t0\nday\t1\t1\nacct\t1\t0\tH\t10\t0\t0\t0\nday\t2\t257\nend\n" gives "day\t1\t10\t10\ndaily\t1\t10\t1000000000000\t1000\t1100\t2200\nrefused\t4\t5\n")
+    -- 3 on a second day
+    ∷ ("period\t1\t1\nmember\t1\t0\nday\t1\t1\nacct\t1\t0\tH\t10\t0\t0\t0\nday\t1\t1\nacct\t1\t0\tH\t10\t0\t0\t0\nend\n" gives "day\t1\t10\t10\ndaily\t1\t10\t1000000000000\t1000\t1100\t2200\nrefused\t3\t5\n")
+    -- 5 on a second day
+    ∷ ("period\t1\t1\nmember\t1\t0\nday\t1\t1\nacct\t1\t0\tH\t10\t0\t0\t0\nday\t2\t2\nacct\t1\t0\tH\t10\t0\t0\t0\nacct\t1\t0\tH\t10\t0\t0\t0\nend\n" gives "day\t1\t10\t10\ndaily\t1\t10\t1000000000000\t1000\t1100\t2200\nrefused\t5\t7\n")
+    -- 5 past a second day
+    ∷ ("period\t2\t1\nmember\t1\t0\nmember\t2\t0\nday\t1\t2\nacct\t1\t0\tH\t10\t0\t0\t0\nacct\t2\t0\tH\t20\t0\t0\t0\nday\t2\t1\nacct\t1\t0\tH\t10\t0\t0\t0\nend\n" gives "day\t1\t30\t20\ndaily\t1\t10\t333333333334\t667\t733\t1467\ndaily\t2\t20\t666666666667\t1333\t1467\t2933\nrefused\t5\t9\n")
+    -- 6 on a second day
+    ∷ ("period\t1\t1\nmember\t1\t0\nday\t1\t1\nacct\t1\t0\tH\t10\t0\t0\t0\nday\t2\t2\nacct\t1\t0\tH\t10\t0\t0\t0\nacct\t1\t1\tU\t10\t1\t2\t0\nend\n" gives "day\t1\t10\t10\ndaily\t1\t10\t1000000000000\t1000\t1100\t2200\nrefused\t6\t7\n")
+    -- 7 on a second day
+    ∷ ("period\t1\t1\nmember\t1\t0\nday\t1\t1\nacct\t1\t0\tH\t10\t0\t0\t0\nday\t2\t1\nacct\t1\t0\tH\t0\t0\t0\t0\nend\n" gives "day\t1\t10\t10\ndaily\t1\t10\t1000000000000\t1000\t1100\t2200\nrefused\t7\t5\n")
+    -- 9 on a second day
+    ∷ ("period\t1\t1\nmember\t1\t0\nday\t1\t1\nacct\t1\t0\tH\t10\t0\t0\t0\nday\t2\t2\nacct\t1\t0\tH\t10\t0\t0\t0\nacct\t1\tx\tU\t10\t0\t0\t0\nend\n" gives "day\t1\t10\t10\ndaily\t1\t10\t1000000000000\t1000\t1100\t2200\nrefused\t9\t7\n")
+    -- days that leave numbers out
+    ∷ ("period\t1\t1\nmember\t1\t0\nday\t1\t1\nacct\t1\t0\tH\t10\t0\t0\t0\nday\t9\t1\nacct\t1\t0\tH\t30\t0\t0\t0\nday\t31\t1\nacct\t1\t0\tH\t20\t0\t0\t0\nend\n" gives "day\t1\t10\t10\ndaily\t1\t10\t1000000000000\t1000\t1100\t2200\nday\t9\t30\t30\ndaily\t1\t30\t1000000000000\t3000\t3300\t6600\nday\t31\t20\t20\ndaily\t1\t20\t1000000000000\t2000\t2200\t4400\nfund\t3\t30\t50000000\ncontribution\t1\t33\t50000000\t100000000\n")
     -- valid 0
     ∷ ("period\t4\t3\nmember\t1\t26\nmember\t2\t26\nmember\t3\t26\nmember\t4\t26\nday\t13\t14\nacct\t1\t0\tH\t-262899683022\t0\t0\t-668629069849\t567526038730\t-863218408590\nacct\t2\t0\tH\t-346605624023\t616466234476\t0\t501347962222\t-963071858498\t-653111635317\nacct\t2\t1\tR\t-432304380642\t188938951965\t0\t-857350163596\t144632401607\t-648863850673\nacct\t2\t2\tR\t-432304380642\t188938951965\t0\t-857350163596\t144632401607\t-648863850673\nacct\t2\t4\tR\t514477493977\t605846778877\t0\t-110576346448\t-278584670675\t-168457334601\nacct\t2\t5\tA\t645405390379\t789754674057\t578186029328\t1000000000000\t218111238757\t-144349283678\nacct\t2\t6\tR\t645405390379\t789754674057\t578186029328\t1000000000000\t218111238757\t-144349283678\nacct\t2\t7\tU\t-515256285254\t484743714748\t484743714748\t397475177865\t-1000000000000\t-1000000000000\nacct\t2\t8\tR\t165165596453\t658362864412\t0\t798964899690\t456741760665\t1000000000000\nacct\t2\t9\tR\t165165596453\t658362864412\t0\t798964899690\t456741760665\t1000000000000\nacct\t2\t10\tA\t476103379618\t718676592968\t0\t571407212819\t-242573213351\t80482904064\nacct\t2\t11\tU\t905277672245\t0\t0\t1000000000000\t279297138232\t1000000000000\nacct\t3\t0\tH\t79063012331\t847770741368\t0\t-701352662683\t136668072040\t-768707729034\nacct\t4\t0\tH\t992053526993\t271218593446\t0\t720834933547\t1000000000000\t861118431922\nend\n" gives "day\t13\t3752491681240\t2191145079813\ndaily\t1\t600318725568\t159978695908\t35053653241232\t38559018565355\t77118037130710\ndaily\t2\t3152172955672\t840021304093\t184060854740068\t202466940214075\t404933880428150\ndaily\t3\t0\t0\t0\t0\t0\ndaily\t4\t0\t0\t0\t0\t0\nfund\t1\t2191145079813\t2410359587798\ncontribution\t1\t385590185656\t385590185656\t771180371312\ncontribution\t2\t2024669402142\t2024669402142\t4049338804284\ncontribution\t3\t0\t50000000\t100000000\ncontribution\t4\t0\t50000000\t100000000\n")
     -- valid 1
@@ -325,3 +388,12 @@ bytes-passed = refl
 pub bytes-at-first : (g : Register) → readDay g 4 (some (3 ∷ 2 ∷ [])) ≡ goesOn [] (account g begun 4 2 0)
 unfolding computed reads
 bytes-at-first g = refl
+
+-- What no report shows: the number of a letter, "else 9", where A and U count alike and row 5 refuses every other; a number of 20 digits.
+pub letters : map (λ (s : String). kindOf (bytes s)) ("H" ∷ "R" ∷ "A" ∷ "U" ∷ "h" ∷ "" ∷ "HH" ∷ "9" ∷ []) ≡ 0 ∷ 1 ∷ 2 ∷ 3 ∷ 9 ∷ 9 ∷ 9 ∷ 9 ∷ []
+unfolding computed reads
+letters = refl
+
+pub longest : decimal 18446744073709551615 ≡ bytes "18446744073709551615"
+unfolding computed reads
+longest = refl
