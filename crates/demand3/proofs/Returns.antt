@@ -16,7 +16,7 @@ use contract.Adequate.{Satisfies, sat-weaken, sat-⇛, sat-ex∗}
 use denote.Triple.Entry.{Res, onEntry}
 use denote.Triple.Bound.{Bound, passed}
 use denote.Triple.Spec.{Back, tripleOf, Meets}
-use denote.Triple.Clauses.{Ended, ClausesAt, Clauses, AtExit, Lasts, atExit, lasts, ensured, closing}
+use denote.Triple.Clauses.{Ended, ClausesAt, Clauses, Lasts, atExit, lasts, ensured, closing}
 use denote.Triple.Adequate.{adequate}
 use Rattle.demand3.proofs.Facts.{Ensured}
 
@@ -33,14 +33,16 @@ module _ {M : Type 1} (𝓤 : URA M) (H : Heap 𝓤) (𝓜 : Model 𝓤 H) (𝓖
   abbrev of : Clauses 𝓤 T
   of = clauses A (𝓜 .mem) (𝓡 .run)
 
-  -- x has the call's lifetimes, its arguments and their machine values; F is whatever else there is, and comes back untouched
+  -- x has the call's lifetimes, its arguments and their machine values. F is whatever else there is, and comes back untouched. w has what
+  -- the call's references hold at exit: it stands in the memory after the call, and the `ensures` speaks of it.
   abbrev pub Returns : Type 2
   Returns =
       (x : Bound 𝓤 H A (T .signature)) (g : of (x .0) (x .3) .ghost) (σ : Memory) (F : SProp 𝓤)
       → Satisfies 𝓤 H 𝓜 σ ((onEntry 𝓤 H A (T .signature) (x .0) (x .1) (x .3) (x .4) ∗ of (x .0) (x .3) .requires g) ∗ F)
       → ∥ ((v : Val) × (σ′ : Memory) × ends ρ (passed 𝓤 H A (T .signature) x) σ v σ′
-      × (r : Res (T .signature) (x .0)) × (e : AtExit T (x .0))
-      × Satisfies 𝓤 H 𝓜 σ′ (Back 𝓤 H A (T .signature) x v r ∗ F) × Ensured 𝓤 (of (x .0) (x .3) .ensures g r e)) ∥₁
+      × (r : Res (T .signature) (x .0)) × (w : Lasts T (x .0) (x .3))
+      × Satisfies 𝓤 H 𝓜 σ′ (sem 𝓤 H A (lasts T (x .0) (x .3) w) ∗ (Back 𝓤 H A (T .signature) x v r ∗ F))
+      × Ensured 𝓤 (of (x .0) (x .3) .ensures g r (atExit T (x .0) (x .3) w))) ∥₁
 
   turned : (P Q F : SProp 𝓤) → ent 𝓤 ((P ∗ Q) ∗ F) (Q ∗ (P ∗ F))
   turned P Q F = via 𝓤 ((Q ∗ P) ∗ F) (monoL 𝓤 F (comm∗ 𝓤 P Q)) (assoc∗ 𝓤 Q P F)
@@ -57,9 +59,9 @@ module _ {M : Type 1} (𝓤 : URA M) (H : Heap 𝓤) (𝓜 : Model 𝓤 H) (𝓖
       (λ (r, s₂).
       ∥∥₁-map (sat-ex∗ 𝓤 H 𝓜 σ′ (at r) (back v r ∗ F) (sat-weaken 𝓤 H 𝓜 σ′ (turned (back v r) (left r) F) s₂))
       (λ (w, s₃).
-      let e = atExit T (x .0) (x .3) w in
-      let told = sProp·Sat·mono (𝓤 .op) (inner (𝓜 .mem σ′) (last w) (here .ensures g r e) (back v r ∗ F)) s₃ in
-      (v, σ′, (n, ended), r, e, sat-weaken 𝓤 H 𝓜 σ′ (snd∗ 𝓤 (at r w) (back v r ∗ F)) s₃, told))))
+      let e = here .ensures g r (atExit T (x .0) (x .3) w) in
+      let told = sProp·Sat·mono (𝓤 .op) (inner (𝓜 .mem σ′) (last w) e (back v r ∗ F)) s₃ in
+      (v, σ′, (n, ended), r, w, sat-weaken 𝓤 H 𝓜 σ′ (monoL 𝓤 (back v r ∗ F) (fst∗ 𝓤 (last w) e)) s₃, told))))
     where
       here : ClausesAt 𝓤 T (x .0)
       here = of (x .0) (x .3)

@@ -8,13 +8,13 @@ use lib.Dec.{ltb}
 use lib.IntN.{ℤ, pos}
 use lib.ListN.{length, getD}
 use Rattle.numbers.specs.Fractions.{Fraction, _over_, Proper, _≼_, _≺_}
-use Rattle.numbers.specs.Lists.{Every, firstWhere}
+use Rattle.numbers.specs.Lists.{range, Every, firstWhere}
 use Rattle.methodology.specs.Account.{Opening, DayInput, members, accounts, nobody, headingAt}
 use Rattle.methodology.specs.Member.{memberUnder, memberOwn}
 use Rattle.methodology.specs.Day.{total, maxEul, dailies}
 use Rattle.methodology.specs.Contribution.{KeptDay, exactCharge, allowance, shortfall}
 use Rattle.methodology.specs.Register.{Register, start, opening, day, closing, step, buffer}
-use Rattle.methodology.proofs.Samples.{computed, H, R, A, U, Line, acct, minus, losing, dayOf}
+use Rattle.methodology.proofs.Samples.{computed, H, R, A, U, Line, acct, minus, losing, houses, clients, dayOf}
 
 -- a case: the figures that the definitions give, and those that document 01 has
 pub record Case : Type 0 where
@@ -29,16 +29,6 @@ got is due = record { got = map pos got; due = map pos due }
 
 abbrev _is-signed_ : List ℤ → List ℤ → Case
 got is-signed due = record { got = got; due = due }
-
--- house accounts with the given EULs, of members from the first on
-abbrev houses : (first : ℕ) → List ℤ → List Line
-houses first [] = []
-houses first (e ∷ es) = losing first 0 H e ∷ houses (suc first) es
-
--- client accounts of member 1, by kind and EUL, numbered from the first on
-abbrev clients : (first : ℕ) → List (ℕ × ℤ) → List Line
-clients first [] = []
-clients first (c ∷ cs) = losing 1 first (c .0) (c .1) ∷ clients (suc first) cs
 
 -- a period of one scenario, with a group number for each member
 abbrev groups : List ℕ → Opening
@@ -130,6 +120,11 @@ cases =
     is (165000000 ∷ 165000000 ∷ 330000000 ∷ 495000000 ∷ 495000000 ∷ 990000000 ∷ [])
     ∷ []
 
+-- Beyond document 01: 31 days on which two members lose i and 33 - i million on day i, so that M is the first day's.
+pub whole-month : closed (groups (0 ∷ 0 ∷ [])) (map (λ i. pos (i * 1000000) ∷ pos ((33 - i) * 1000000) ∷ []) (range 1 31)) ≡ 17066667 ∷ 50000000 ∷ 100000000 ∷ 18133334 ∷ 50000000 ∷ 100000000 ∷ []
+unfolding computed
+whole-month = refl
+
 pub ten-figures : map (λ (c : Case). c .got) cases ≡ map (λ (c : Case). c .due) cases
 unfolding cases computed
 ten-figures = refl
@@ -193,12 +188,10 @@ exact-figures = refl
 
 -- What demand 3 says its bounds by, from both sides: at most, less than, a denominator above 0, every number of a list.
 pub orders :
-    (1 over 3 ≼ 2 over 6)
-    × (1 over 2 ≼ 2 over 3)
-    × ¬ (2 over 3 ≼ 1 over 2)
-    × (1 over 2 ≺ 2 over 3)
-    × ¬ (1 over 3 ≺ 2 over 6)
-    × ¬ (2 over 3 ≺ 1 over 2)
+    (1 over 2 ≼ 3 over 6)
+    × ¬ (2 over 2 ≼ 2 over 3)
+    × (2 over 2 ≺ 3 over 2)
+    × ¬ (2 over 1 ≺ 6 over 3)
     × Proper (0 over 1)
     × ¬ Proper (1 over 0)
     × Every (λ x. x < 3) (1 ∷ 2 ∷ [])
@@ -206,10 +199,8 @@ pub orders :
     × ¬ Every (λ x. x < 3) (1 ∷ 3 ∷ [])
 orders = (
   omega arith,
-  omega arith,
   (λ h. omega (arith, h)),
   omega arith,
-  (λ h. omega (arith, h)),
   (λ h. omega (arith, h)),
   omega arith,
   (λ h. omega (arith, h)),

@@ -1,6 +1,6 @@
 -- How the worked examples are written: accounts as lines in the order of an acct line of the month's text, put into a day's four slices.
 use mathlib.Core.List.{List, [], _∷_, map, flatMap}
-use Prim.Native.Nat.{ℕ}
+use Prim.Native.Nat.{ℕ, suc}
 use lib.IntN.{ℤ, pos, negℤ}
 use lib.ListN.{replicate}
 use Rattle.numbers.specs.Signed.{_⁺, _⁻}
@@ -72,6 +72,16 @@ minus n = negℤ (pos n)
 -- an account whose EUL is e under the one scenario: a decrease of e, or where e is negative none and a margin of -e
 abbrev pub losing : (member number kind : ℕ) → (e : ℤ) → Line
 losing member number kind e = acct member number kind (pos (e ⁺)) (e ⁻) 0 (pos 0 ∷ [])
+
+-- house accounts with the given EULs, of members from the first on
+abbrev pub houses : (first : ℕ) → List ℤ → List Line
+houses first [] = []
+houses first (e ∷ es) = losing first 0 H e ∷ houses (suc first) es
+
+-- client accounts of member 1, by kind and EUL, numbered from the first on
+abbrev pub clients : (first : ℕ) → List (ℕ × ℤ) → List Line
+clients first [] = []
+clients first (c ∷ cs) = losing 1 first (c .0) (c .1) ∷ clients (suc first) cs
 
 -- a day's number and its accounts
 abbrev pub dayOf : (number : ℕ) → List Line → DayInput

@@ -4,13 +4,13 @@
 -- are in WorkedLimits.antt.
 use mathlib.Core.Path.{_≡_, refl}
 use mathlib.Core.List.{List, [], _∷_, _++_, map}
-use Prim.Native.Nat.{ℕ}
+use Prim.Native.Nat.{ℕ, suc, _*_}
 use lib.IntN.{ℤ, pos}
-use lib.ListN.{drop, replicate}
+use lib.ListN.{length, drop, replicate}
 use Rattle.methodology.specs.declared.Status.the-variants.{Fresh, Open, Closed}
 use Rattle.methodology.specs.Account.{Opening}
 use Rattle.methodology.specs.Register.{Call, opening, day, closing, Register, start, step, accepted, refused, refusedAt}
-use Rattle.methodology.proofs.Samples.{computed, H, R, A, U, Line, acct, minus, losing, dayOf, brings, Exchange, _gets_, _gets_writing_, played}
+use Rattle.methodology.proofs.Samples.{computed, H, R, A, U, Line, acct, minus, losing, houses, clients, dayOf, brings, Exchange, _gets_, _gets_writing_, played}
 
 -- the printed month
 abbrev printed : List Exchange
@@ -27,28 +27,28 @@ printed =
 
 -- ---- M, on the first, the second and the last of three days
 
--- a day of two members without groups, by what they lose
-abbrev two-lose : (number e₁ e₂ : ℕ) → Call
-two-lose number e₁ e₂ = day (dayOf number (losing 1 0 H (pos e₁) ∷ losing 2 0 H (pos e₂) ∷ [])) 10
+-- a day by what each member loses, on its house account
+abbrev losses : (number : ℕ) → List ℕ → Call
+losses number es = day (dayOf number (houses 1 (map pos es))) (5 * length es)
 
 -- M is its Max EUL, wherever it stands
 abbrev worst : (number : ℕ) → Exchange
 worst number =
-    two-lose number 400000000 200000000
+    losses number (400000000 ∷ 200000000 ∷ [])
     gets accepted (600000000 ∷ 400000000 ∷ [])
     writing (400000000 ∷ 666666666667 ∷ 26666666667 ∷ 29333333333 ∷ 58666666667
     ∷ 200000000 ∷ 333333333334 ∷ 13333333333 ∷ 14666666667 ∷ 29333333333 ∷ [])
 
 abbrev middling : (number : ℕ) → Exchange
 middling number =
-    two-lose number 100000000 300000000
+    losses number (100000000 ∷ 300000000 ∷ [])
     gets accepted (400000000 ∷ 300000000 ∷ [])
     writing (100000000 ∷ 250000000000 ∷ 7500000000 ∷ 8250000000 ∷ 16500000000
     ∷ 300000000 ∷ 750000000000 ∷ 22500000000 ∷ 24750000000 ∷ 49500000000 ∷ [])
 
 abbrev least : (number : ℕ) → Exchange
 least number =
-    two-lose number 70000000 30000000
+    losses number (70000000 ∷ 30000000 ∷ [])
     gets accepted (100000000 ∷ 70000000 ∷ [])
     writing (70000000 ∷ 700000000000 ∷ 4900000000 ∷ 5390000000 ∷ 10780000000
     ∷ 30000000 ∷ 300000000000 ∷ 2100000000 ∷ 2310000000 ∷ 4620000000 ∷ [])
@@ -61,6 +61,89 @@ three-days first second third =
     ∷ closing 6
     gets accepted (3 ∷ 400000000 ∷ 440000001 ∷ [])
     writing (237111112 ∷ 237111112 ∷ 474222224 ∷ 202888889 ∷ 202888889 ∷ 405777778 ∷ [])
+    ∷ []
+
+-- five days; M is the first one's, or the last one's where they come the other way round
+abbrev five-days : List (ℕ → Exchange)
+five-days =
+    (λ number. losses number (10 ∷ 10 ∷ []) gets accepted (20 ∷ 10 ∷ []) writing (10 ∷ 500000000000 ∷ 500 ∷ 550 ∷ 1100 ∷ 10 ∷ 500000000000 ∷ 500 ∷ 550 ∷ 1100 ∷ []))
+    ∷ (λ number. losses number (4 ∷ 6 ∷ []) gets accepted (10 ∷ 6 ∷ []) writing (4 ∷ 400000000000 ∷ 240 ∷ 264 ∷ 528 ∷ 6 ∷ 600000000000 ∷ 360 ∷ 396 ∷ 792 ∷ []))
+    ∷ (λ number. losses number (3 ∷ 7 ∷ []) gets accepted (10 ∷ 7 ∷ []) writing (3 ∷ 300000000000 ∷ 210 ∷ 231 ∷ 462 ∷ 7 ∷ 700000000000 ∷ 490 ∷ 539 ∷ 1078 ∷ []))
+    ∷ (λ number. losses number (1 ∷ 9 ∷ []) gets accepted (10 ∷ 9 ∷ []) writing (1 ∷ 100000000000 ∷ 90 ∷ 99 ∷ 198 ∷ 9 ∷ 900000000000 ∷ 810 ∷ 891 ∷ 1782 ∷ []))
+    ∷ (λ number. losses number (7 ∷ 2 ∷ []) gets accepted (9 ∷ 7 ∷ []) writing (7 ∷ 777777777778 ∷ 544 ∷ 599 ∷ 1198 ∷ 2 ∷ 222222222223 ∷ 156 ∷ 171 ∷ 342 ∷ []))
+    ∷ []
+
+-- the given days, numbered from the first on
+abbrev numbered : (first : ℕ) → List (ℕ → Exchange) → List Exchange
+numbered first [] = []
+numbered first (d ∷ ds) = d first ∷ numbered (suc first) ds
+
+abbrev backwards : List (ℕ → Exchange) → List (ℕ → Exchange)
+backwards [] = []
+backwards (d ∷ ds) = backwards ds ++ (d ∷ [])
+
+abbrev five-days-in : (days : List (ℕ → Exchange)) → List Exchange
+five-days-in days =
+    brings 2 1 (0 ∷ 0 ∷ []) gets accepted []
+    ∷ numbered 1 days
+    ++ (closing 6 gets accepted (5 ∷ 10 ∷ 100000000 ∷ []) writing (5 ∷ 50000000 ∷ 100000000 ∷ 7 ∷ 50000000 ∷ 100000000 ∷ []) ∷ [])
+
+-- ---- rounding, clients, the minimum
+
+-- halves go up, to an even number and to an odd one, in each of the three cent figures
+abbrev halves : List (List Exchange)
+halves =
+    (brings 4 1 (replicate 4 0) gets accepted []
+    ∷ losses 1 (3 ∷ 3 ∷ 1 ∷ 1 ∷ [])
+    gets accepted (8 ∷ 3 ∷ [])
+    writing (3 ∷ 375000000000 ∷ 113 ∷ 124 ∷ 248
+    ∷ 3 ∷ 375000000000 ∷ 113 ∷ 124 ∷ 248
+    ∷ 1 ∷ 125000000000 ∷ 38 ∷ 41 ∷ 83
+    ∷ 1 ∷ 125000000000 ∷ 38 ∷ 41 ∷ 83
+    ∷ [])
+    ∷ [])
+    ∷ (brings 2 1 (0 ∷ 0 ∷ []) gets accepted []
+    ∷ losses 1 (3 ∷ 1 ∷ [])
+    gets accepted (4 ∷ 3 ∷ [])
+    writing (3 ∷ 750000000000 ∷ 225 ∷ 248 ∷ 495 ∷ 1 ∷ 250000000000 ∷ 75 ∷ 83 ∷ 165 ∷ [])
+    ∷ [])
+    ∷ []
+
+-- one member, by its house EUL and its clients: T and Max EUL are its EUL
+abbrev of-one : (number : ℕ) → (house : ℤ) → List (ℕ × ℤ) → Call
+of-one number house cs = day (dayOf number (losing 1 0 H house ∷ clients 1 cs)) 5
+
+-- negative EULs beside positive ones of the same kind, R in rising order, one R; five days, M the first one's
+abbrev client-days : List Exchange
+client-days =
+    brings 1 1 (0 ∷ []) gets accepted []
+    ∷ of-one 1 (pos 0) ((A, pos 10) ∷ (A, minus 4) ∷ (U, pos 20) ∷ (U, minus 6) ∷ [])
+    gets accepted (45 ∷ 45 ∷ [])
+    writing (45 ∷ 1000000000000 ∷ 4500 ∷ 4950 ∷ 9900 ∷ [])
+    ∷ of-one 2 (pos 0) ((A, pos 10) ∷ (A, minus 4) ∷ []) gets accepted (15 ∷ 15 ∷ []) writing (15 ∷ 1000000000000 ∷ 1500 ∷ 1650 ∷ 3300 ∷ [])
+    ∷ of-one 3 (pos 0) ((R, pos 5) ∷ (R, minus 3) ∷ []) gets accepted (5 ∷ 5 ∷ []) writing (5 ∷ 1000000000000 ∷ 500 ∷ 550 ∷ 1100 ∷ [])
+    ∷ of-one 4 (minus 7) ((R, pos 10) ∷ (R, pos 20) ∷ (R, pos 30) ∷ [])
+    gets accepted (43 ∷ 43 ∷ [])
+    writing (43 ∷ 1000000000000 ∷ 4300 ∷ 4730 ∷ 9460 ∷ [])
+    ∷ of-one 5 (minus 1) ((R, pos 4) ∷ []) gets accepted (3 ∷ 3 ∷ []) writing (3 ∷ 1000000000000 ∷ 300 ∷ 330 ∷ 660 ∷ [])
+    ∷ closing 3 gets accepted (5 ∷ 45 ∷ 50000000 ∷ []) writing (50 ∷ 50000000 ∷ 100000000 ∷ [])
+    ∷ []
+
+-- a raw charge a dollar above the minimum, and one a dollar below it
+abbrev at-minimum : List (List Exchange)
+at-minimum =
+    (brings 1 1 (0 ∷ []) gets accepted []
+    ∷ losses 1 (45454546 ∷ [])
+    gets accepted (45454546 ∷ 45454546 ∷ [])
+    writing (45454546 ∷ 1000000000000 ∷ 4545454600 ∷ 5000000060 ∷ 10000000120 ∷ [])
+    ∷ closing 3 gets accepted (1 ∷ 45454546 ∷ 50000001 ∷ []) writing (50000001 ∷ 50000001 ∷ 100000002 ∷ [])
+    ∷ [])
+    ∷ (brings 1 1 (0 ∷ []) gets accepted []
+    ∷ losses 1 (45454544 ∷ [])
+    gets accepted (45454544 ∷ 45454544 ∷ [])
+    writing (45454544 ∷ 1000000000000 ∷ 4545454400 ∷ 4999999840 ∷ 9999999680 ∷ [])
+    ∷ closing 3 gets accepted (1 ∷ 45454544 ∷ 50000000 ∷ []) writing (49999999 ∷ 50000000 ∷ 100000000 ∷ [])
+    ∷ [])
     ∷ []
 
 -- ---- the refusal table: a period of three members, the first two Affiliates, and two scenarios
@@ -110,14 +193,28 @@ house member = by member 0 H
 abbrev on : (number : ℕ) → List Line → Call
 on number lines = day (dayOf number lines) 15
 
--- a day 6 of three good accounts, its slices changed
-abbrev lending : (List ℤ → List ℤ) → (margins extras : List ℕ → List ℕ) → Call
-lending f g h =
-    let d = dayOf 6 (house 1 ∷ house 2 ∷ house 3 ∷ []) in
+-- a day of three good accounts, its slices changed
+abbrev lending : (number : ℕ) → (List ℤ → List ℤ) → (margins extras : List ℕ → List ℕ) → Call
+lending number f g h =
+    let d = dayOf number (house 1 ∷ house 2 ∷ house 3 ∷ []) in
     day (record { number = d .number; headings = d .headings; npvs = f (d .npvs); margins = g (d .margins); extras = h (d .extras) }) 15
 
-abbrev same : List ℕ → List ℕ
-same l = l
+-- a good day with an output of this length
+abbrev lent-room : (number room : ℕ) → Call
+lent-room number room = day (dayOf number (house 1 ∷ house 2 ∷ house 3 ∷ [])) room
+
+-- the same with other headings
+abbrev heading : (lines : List Line) → Call
+heading lines =
+    let d = dayOf 6 (house 1 ∷ house 2 ∷ house 3 ∷ []) in
+    day (record { number = d .number; headings = map (λ l. l .heading) lines; npvs = d .npvs; margins = d .margins; extras = d .extras }) 15
+
+abbrev as-it-is : {X : Type 0} → List X → List X
+as-it-is l = l
+
+-- a day on which T is 0
+abbrev nothing-lost : List Line
+nothing-lost = with-amounts 1 (pos 1) 1 0 (pos 0) ∷ with-amounts 2 (pos 2) 5 3 (pos 0) ∷ with-amounts 3 (pos 0) 0 0 (pos 1) ∷ []
 
 abbrev while-fresh : List Exchange
 while-fresh =
@@ -129,6 +226,7 @@ while-fresh =
     ∷ brings 3 0 (4 ∷ 4 ∷ 0 ∷ []) gets refused 1
     ∷ brings 3 17 (4 ∷ 4 ∷ 0 ∷ []) gets refused 1
     ∷ brings 3 2 (33 ∷ 4 ∷ 0 ∷ []) gets refused 1
+    ∷ brings 3 2 (4 ∷ 33 ∷ 0 ∷ []) gets refused 1
     ∷ brings 3 2 (4 ∷ 4 ∷ 33 ∷ []) gets refused 1
     ∷ brings 3 2 (4 ∷ 4 ∷ []) gets refused 1
     ∷ brings 3 2 (4 ∷ 4 ∷ 0 ∷ 0 ∷ []) gets refused 1
@@ -140,21 +238,34 @@ while-open =
     -- opening: 2, and 2 before 1
     brings 3 2 (4 ∷ 4 ∷ 0 ∷ []) gets refused 2
     ∷ brings 0 2 [] gets refused 2
+    ∷ brings 3 17 (4 ∷ 4 ∷ 0 ∷ []) gets refused 2
+    ∷ brings 3 2 (4 ∷ 33 ∷ 0 ∷ []) gets refused 2
+    ∷ brings 3 2 (4 ∷ 4 ∷ []) gets refused 2
     -- closing: 8, and 8 before 4
     ∷ closing 9 gets refused 8
     ∷ closing 8 gets refused 8
     -- row 4: the number of accounts, each length, the output, one too few and one too many; and 4 before 3
     ∷ on 6 [] gets refused 4
     ∷ on 6 (replicate 257 (house 1)) gets refused 4
-    ∷ lending (drop 1) same same gets refused 4
-    ∷ lending (λ l. pos 0 ∷ l) same same gets refused 4
-    ∷ lending (λ l. l) (drop 1) same gets refused 4
-    ∷ lending (λ l. l) (λ l. 0 ∷ l) same gets refused 4
-    ∷ lending (λ l. l) same (drop 1) gets refused 4
-    ∷ lending (λ l. l) same (λ l. 0 ∷ l) gets refused 4
-    ∷ day (dayOf 6 (house 1 ∷ house 2 ∷ house 3 ∷ [])) 14 gets refused 4
-    ∷ day (dayOf 6 (house 1 ∷ house 2 ∷ house 3 ∷ [])) 16 gets refused 4
+    ∷ lending 6 (drop 1) as-it-is as-it-is gets refused 4
+    ∷ lending 6 (λ l. pos 0 ∷ l) as-it-is as-it-is gets refused 4
+    ∷ lending 6 as-it-is (drop 1) as-it-is gets refused 4
+    ∷ lending 6 as-it-is (λ l. 0 ∷ l) as-it-is gets refused 4
+    ∷ lending 6 as-it-is as-it-is (drop 1) gets refused 4
+    ∷ lending 6 as-it-is as-it-is (λ l. 0 ∷ l) gets refused 4
+    ∷ lending 6 (drop 3) as-it-is as-it-is gets refused 4
+    ∷ heading (house 1 ∷ house 2 ∷ []) gets refused 4
+    ∷ heading (house 1 ∷ house 2 ∷ house 3 ∷ by 3 1 R ∷ []) gets refused 4
+    ∷ lent-room 6 0 gets refused 4
+    ∷ lent-room 6 9 gets refused 4
+    ∷ lent-room 6 14 gets refused 4
+    ∷ lent-room 6 16 gets refused 4
+    ∷ lent-room 6 30 gets refused 4
     ∷ on 0 [] gets refused 4
+    ∷ lending 0 (drop 1) as-it-is as-it-is gets refused 4
+    ∷ lending 0 as-it-is (drop 1) as-it-is gets refused 4
+    ∷ lending 0 as-it-is as-it-is (drop 1) gets refused 4
+    ∷ lent-room 0 14 gets refused 4
     -- row 3: the number's limits; and 3 before 5. The number of accounts is at its limit once
     ∷ on 0 (house 1 ∷ house 2 ∷ house 3 ∷ []) gets refused 3
     ∷ on 32 (house 1 ∷ house 2 ∷ house 3 ∷ []) gets refused 3
@@ -170,24 +281,40 @@ while-open =
     ∷ on 6 (house 1 ∷ house 2 ∷ by 2 2 U ∷ by 2 2 U ∷ house 3 ∷ []) gets refusedAt 5 3
     -- number above 65,535
     ∷ on 6 (house 1 ∷ house 2 ∷ house 3 ∷ by 3 65536 A ∷ []) gets refusedAt 5 3
+    ∷ on 6 (house 1 ∷ by 1 2 R ∷ by 1 2 U ∷ house 2 ∷ house 3 ∷ []) gets refusedAt 5 2
     -- kind unknown
     ∷ on 6 (house 1 ∷ by 1 1 4 ∷ house 2 ∷ house 3 ∷ []) gets refusedAt 5 1
+    ∷ on 6 (house 1 ∷ by 1 1 255 ∷ house 2 ∷ house 3 ∷ []) gets refusedAt 5 1
     -- number 0 without H, H without 0
     ∷ on 6 (by 1 0 R ∷ house 2 ∷ house 3 ∷ []) gets refusedAt 5 0
     ∷ on 6 (house 1 ∷ by 2 0 A ∷ house 3 ∷ []) gets refusedAt 5 1
     ∷ on 6 (house 1 ∷ house 2 ∷ by 3 0 U ∷ []) gets refusedAt 5 2
     ∷ on 6 (house 1 ∷ house 2 ∷ by 2 1 H ∷ house 3 ∷ []) gets refusedAt 5 2
-    -- a member's first is not 0
+    ∷ on 6 (house 1 ∷ by 1 2 H ∷ house 2 ∷ house 3 ∷ []) gets refusedAt 5 1
+    -- a member's first is not 0: of the first member, of one between, of the last
+    ∷ on 6 (by 1 1 R ∷ house 2 ∷ house 3 ∷ []) gets refusedAt 5 0
     ∷ on 6 (house 1 ∷ by 2 1 R ∷ house 3 ∷ []) gets refusedAt 5 1
+    ∷ on 6 (house 1 ∷ house 2 ∷ by 3 1 R ∷ []) gets refusedAt 5 2
     -- a member skipped, the first among them
     ∷ on 6 (house 1 ∷ house 3 ∷ []) gets refusedAt 5 1
     ∷ on 6 (house 2 ∷ house 3 ∷ []) gets refusedAt 5 0
+    ∷ on 6 (house 3 ∷ []) gets refusedAt 5 0
     -- the last members are missing
     ∷ on 6 (house 1 ∷ []) gets refusedAt 5 1
+    ∷ on 6 (house 1 ∷ by 1 1 R ∷ []) gets refusedAt 5 2
     ∷ on 6 (house 1 ∷ house 2 ∷ []) gets refusedAt 5 2
     -- the smallest index wins
     ∷ on 6 (house 1 ∷ by 1 65536 R ∷ by 1 1 R ∷ []) gets refusedAt 5 1
+    ∷ on 6 (house 1 ∷ by 1 1 4 ∷ by 2 1 R ∷ []) gets refusedAt 5 1
+    ∷ on 6 (house 1 ∷ by 1 1 H ∷ by 3 1 R ∷ []) gets refusedAt 5 1
+    ∷ on 6 (house 1 ∷ by 2 1 R ∷ by 2 2 4 ∷ []) gets refusedAt 5 1
+    ∷ on 6 (house 1 ∷ house 2 ∷ house 3 ∷ by 4 0 H ∷ by 4 1 4 ∷ []) gets refusedAt 5 3
+    ∷ on 6 (house 1 ∷ house 3 ∷ by 3 1 9 ∷ by 4 0 H ∷ []) gets refusedAt 5 1
     -- 5 before 6, over all accounts
+    ∷ on 6 (with-amounts 1 (pos 0) 0 1 (pos 0) ∷ by 1 1 4 ∷ house 2 ∷ house 3 ∷ []) gets refusedAt 5 1
+    ∷ on 6 (with-amounts 1 (pos 0) 0 1 (pos 0) ∷ by 1 1 H ∷ house 2 ∷ house 3 ∷ []) gets refusedAt 5 1
+    ∷ on 6 (with-amounts 1 (pos 0) 0 1 (pos 0) ∷ by 2 1 R ∷ house 3 ∷ []) gets refusedAt 5 1
+    ∷ on 6 (with-amounts 1 (pos 0) 0 1 (pos 0) ∷ house 2 ∷ house 3 ∷ house 4 ∷ []) gets refusedAt 5 3
     ∷ on 6 (with-amounts 1 (pos 0) 0 1 (pos 0) ∷ house 3 ∷ []) gets refusedAt 5 1
     ∷ on 6 (with-amounts 1 (pos 0) 0 1 (pos 0) ∷ house 2 ∷ []) gets refusedAt 5 2
     -- row 6: each amount past its limit, on either side; extra above margin. `extreme` has the last good ones
@@ -199,15 +326,34 @@ while-open =
     ∷ on 6 (house 1 ∷ house 2 ∷ with-amounts 3 (pos 0) 0 0 (minus 1000000000001) ∷ []) gets refusedAt 6 2
     ∷ on 6 (house 1 ∷ with-amounts 2 (pos 0) 1000000000001 0 (pos 0) ∷ house 3 ∷ []) gets refusedAt 6 1
     ∷ on 6 (house 1 ∷ with-amounts 2 (pos 0) 5 6 (pos 0) ∷ house 3 ∷ []) gets refusedAt 6 1
+    ∷ on 6 (house 1 ∷ with-amounts 2 (pos 0) 0 7 (pos 0) ∷ house 3 ∷ []) gets refusedAt 6 1
+    -- of a client of each kind
+    ∷ on 6 (house 1 ∷ acct 1 1 R (pos 0) 0 0 (pos 1000000000001 ∷ pos 0 ∷ []) ∷ house 2 ∷ house 3 ∷ []) gets refusedAt 6 1
+    ∷ on 6 (house 1 ∷ acct 1 1 A (pos 0) 1000000000001 0 (pos 0 ∷ pos 0 ∷ []) ∷ house 2 ∷ house 3 ∷ []) gets refusedAt 6 1
+    ∷ on 6 (house 1 ∷ acct 1 1 U (pos 0) 3 4 (pos 0 ∷ pos 0 ∷ []) ∷ house 2 ∷ house 3 ∷ []) gets refusedAt 6 1
     -- by account, not by slice
+    ∷ on 6 (with-amounts 1 (pos 1000000000001) 0 0 (pos 0) ∷ with-amounts 2 (pos 0) 1000000000001 0 (pos 0) ∷ house 3 ∷ []) gets refusedAt 6 0
     ∷ on 6 (with-amounts 1 (pos 0) 5 6 (pos 0) ∷ with-amounts 2 (pos 1000000000001) 0 0 (pos 0) ∷ house 3 ∷ []) gets refusedAt 6 0
     -- 6 before 7, and 7
     ∷ on 6 (with-amounts 1 (pos 0) 1 0 (pos 0) ∷ with-amounts 2 (pos 0) 1000000000001 0 (pos 1) ∷ with-amounts 3 (pos 0) 1 0 (pos 0) ∷ []) gets refusedAt 6 1
-    ∷ on 6 (with-amounts 1 (pos 1) 1 0 (pos 0) ∷ with-amounts 2 (pos 2) 5 3 (pos 0) ∷ with-amounts 3 (pos 0) 0 0 (pos 1) ∷ []) gets refused 7
+    ∷ on 6 nothing-lost gets refused 7
     -- three days
     ∷ on 5 mixed
     gets accepted (202 ∷ 136 ∷ [])
     writing (130 ∷ 643564356436 ∷ 8752 ∷ 9628 ∷ 19255 ∷ 72 ∷ 356435643565 ∷ 4848 ∷ 5332 ∷ 10665 ∷ 0 ∷ 0 ∷ 0 ∷ 0 ∷ 0 ∷ [])
+    -- refused days between accepted ones leave nothing behind, 3 before 5, 6 and 7 where the number is not above the last
+    ∷ on 20 [] gets refused 4
+    ∷ on 20 (house 1 ∷ []) gets refusedAt 5 1
+    ∷ on 20 (with-amounts 1 (pos 1000000000001) 0 0 (pos 0) ∷ house 2 ∷ house 3 ∷ []) gets refusedAt 6 0
+    ∷ on 20 nothing-lost gets refused 7
+    ∷ on 32 (house 1 ∷ house 2 ∷ house 3 ∷ []) gets refused 3
+    ∷ lending 5 (drop 1) as-it-is as-it-is gets refused 4
+    ∷ lending 5 as-it-is (drop 1) as-it-is gets refused 4
+    ∷ lending 5 as-it-is as-it-is (drop 1) gets refused 4
+    ∷ lent-room 5 14 gets refused 4
+    ∷ on 5 (house 1 ∷ []) gets refused 3
+    ∷ on 5 (with-amounts 1 (pos 1000000000001) 0 0 (pos 0) ∷ house 2 ∷ house 3 ∷ []) gets refused 3
+    ∷ on 5 nothing-lost gets refused 3
     ∷ on 6 hedged gets accepted (10 ∷ 0 ∷ []) writing (10 ∷ 1000000000000 ∷ 0 ∷ 0 ∷ 0 ∷ replicate 10 0)
     ∷ on 31 extreme
     gets accepted (2000000000009 ∷ 2000000000000 ∷ [])
@@ -219,8 +365,11 @@ while-open =
     -- a refused opening drops no day
     ∷ brings 2 1 (0 ∷ 0 ∷ []) gets refused 2
     -- row 4 of a closing
+    ∷ closing 0 gets refused 4
+    ∷ closing 6 gets refused 4
     ∷ closing 8 gets refused 4
     ∷ closing 10 gets refused 4
+    ∷ closing 15 gets refused 4
     ∷ closing 9
     gets accepted (3 ∷ 2000000000000 ∷ 2200049999999 ∷ [])
     writing (1938613861384 ∷ 1938613861384 ∷ 3877227722768 ∷ 261386138615 ∷ 261386138615 ∷ 522772277230 ∷ 4 ∷ 50000000 ∷ 100000000 ∷ [])
@@ -233,8 +382,37 @@ while-closed =
     ∷ on 6 [] gets refused 2
     ∷ closing 9 gets refused 2
     ∷ closing 8 gets refused 2
+    ∷ lending 6 as-it-is (drop 1) as-it-is gets refused 2
+    ∷ lending 6 as-it-is as-it-is (drop 1) gets refused 2
     ∷ brings 0 2 [] gets refused 1
-    -- an opening drops all days
+    ∷ brings 3 17 (4 ∷ 4 ∷ 0 ∷ []) gets refused 1
+    ∷ brings 3 2 (4 ∷ 33 ∷ 0 ∷ []) gets refused 1
+    ∷ brings 3 2 (4 ∷ 4 ∷ []) gets refused 1
+    -- an opening drops all days, and holds what it brings: the same n and k with other groups, more members, fewer
+    ∷ brings 3 2 (0 ∷ 7 ∷ 7 ∷ []) gets accepted []
+    ∷ closing 9 gets refused 8
+    ∷ on 1
+    (acct 1 0 H (pos 5) 0 0 (pos 0 ∷ pos 0 ∷ []) ∷ acct 2 0 H (pos 4) 0 0 (pos 0 ∷ pos 4 ∷ []) ∷ acct 3 0 H (pos 3) 0 0 (pos 0 ∷ pos 3 ∷ []) ∷ [])
+    gets accepted (12 ∷ 7 ∷ [])
+    writing (5 ∷ 416666666667 ∷ 292 ∷ 321 ∷ 642 ∷ 4 ∷ 333333333334 ∷ 233 ∷ 257 ∷ 513 ∷ 3 ∷ 250000000000 ∷ 175 ∷ 193 ∷ 385 ∷ [])
+    ∷ closing 9
+    gets accepted (1 ∷ 7 ∷ 150000000 ∷ [])
+    writing (4 ∷ 50000000 ∷ 100000000 ∷ 3 ∷ 50000000 ∷ 100000000 ∷ 2 ∷ 50000000 ∷ 100000000 ∷ [])
+    ∷ brings 4 1 (0 ∷ 0 ∷ 0 ∷ 0 ∷ []) gets accepted []
+    ∷ losses 1 (1 ∷ 2 ∷ 3 ∷ 4 ∷ [])
+    gets accepted (10 ∷ 4 ∷ [])
+    writing (1 ∷ 100000000000 ∷ 40 ∷ 44 ∷ 88
+    ∷ 2 ∷ 200000000000 ∷ 80 ∷ 88 ∷ 176
+    ∷ 3 ∷ 300000000000 ∷ 120 ∷ 132 ∷ 264
+    ∷ 4 ∷ 400000000000 ∷ 160 ∷ 176 ∷ 352
+    ∷ [])
+    ∷ closing 12
+    gets accepted (1 ∷ 4 ∷ 200000000 ∷ [])
+    writing (1 ∷ 50000000 ∷ 100000000
+    ∷ 1 ∷ 50000000 ∷ 100000000
+    ∷ 2 ∷ 50000000 ∷ 100000000
+    ∷ 2 ∷ 50000000 ∷ 100000000
+    ∷ [])
     ∷ brings 1 1 (32 ∷ []) gets accepted []
     ∷ closing 3 gets refused 8
     ∷ day (dayOf 1 (losing 1 0 H (pos 3) ∷ [])) 5 gets accepted (3 ∷ 3 ∷ []) writing (3 ∷ 1000000000000 ∷ 300 ∷ 330 ∷ 660 ∷ [])
@@ -308,9 +486,13 @@ lists =
     ∷ three-days middling worst least
     ∷ three-days least middling worst
     ∷ (while-fresh ++ (while-open ++ while-closed))
+    ∷ five-days-in five-days
+    ∷ five-days-in (backwards five-days)
+    ∷ client-days
     ∷ every-kind
     ∷ two-groups
-    ∷ opened-at-limits
+    ∷ halves
+    ++ (at-minimum ++ opened-at-limits)
 
 pub worked-calls : map (played start) lists ≡ lists
 unfolding lists played computed
@@ -321,16 +503,16 @@ worked-calls = refl
 abbrev held-two : Opening
 held-two = record { n = 2; k = 1; groups = 0 ∷ 0 ∷ [] }
 
-abbrev opened : Register
-opened = step start (opening held-two)
+abbrev after-opening : Register
+after-opening = step start (opening held-two)
 
-abbrev sized : Register
-sized = step opened (two-lose 5 400000000 200000000)
+abbrev after-day : Register
+after-day = step after-opening (losses 5 (400000000 ∷ 200000000 ∷ []))
 
 pub registers :
     (start ≡ record { status = Fresh; held = record { n = 0; k = 0; groups = [] }; days = [] })
-    × (opened ≡ record { status = Open; held = held-two; days = [] })
-    × (map (λ d. d .number) (sized .days) ≡ 5 ∷ [])
-    × (step sized (closing 6) ≡ record { status = Closed; held = held-two; days = sized .days })
+    × (after-opening ≡ record { status = Open; held = held-two; days = [] })
+    × (map (λ d. d .number) (after-day .days) ≡ 5 ∷ [])
+    × (step after-day (closing 6) ≡ record { status = Closed; held = held-two; days = after-day .days })
 unfolding computed
 registers = (refl, refl, refl, refl)

@@ -2,6 +2,7 @@
 -- computation; the figures are those of a recalculation of its own from document 01.
 use mathlib.Core.Path.{_≡_, refl}
 use mathlib.Core.List.{List, [], _∷_, _++_, map, flatMap}
+use Prim.Native.Nat.{_-_}
 use lib.IntN.{pos}
 use lib.ListN.{replicate}
 use Rattle.numbers.specs.Lists.{range}
@@ -39,6 +40,26 @@ under-16 =
 abbrev under-1 : List Line
 under-1 = acct 1 0 H (pos 5) 0 0 (pos 2 ∷ replicate 15 (pos 5)) ∷ acct 2 0 H (pos 9) 0 0 (pos 5 ∷ replicate 15 (pos 9)) ∷ []
 
+-- Each of 16 scenarios alone: on day j a loss of 3 hangs on scenario j.
+abbrev one-by-one : List Exchange
+one-by-one =
+    brings 1 16 (0 ∷ []) gets accepted []
+    ∷ map
+    (λ j.
+    day (dayOf j (acct 1 0 H (pos 5) 0 0 (replicate (j - 1) (pos 5) ++ (pos 2 ∷ replicate (16 - j) (pos 5))) ∷ [])) 5
+    gets accepted (3 ∷ 3 ∷ [])
+    writing (3 ∷ 1000000000000 ∷ 300 ∷ 330 ∷ 660 ∷ []))
+    (range 1 16)
+    ++ (closing 3 gets accepted (16 ∷ 3 ∷ 50000000 ∷ []) writing (4 ∷ 50000000 ∷ 100000000 ∷ []) ∷ [])
+
+-- row 6 of each of 16 stresses
+abbrev stress-outside : List Exchange
+stress-outside =
+    brings 1 16 (0 ∷ []) gets accepted []
+    ∷ map
+    (λ j. day (dayOf 1 (acct 1 0 H (pos 0) 0 0 (replicate (j - 1) (pos 0) ++ (pos 1000000000001 ∷ replicate (16 - j) (pos 0))) ∷ [])) 5 gets refusedAt 6 0)
+    (range 1 16)
+
 -- 256 accounts of one member; the last at index 255
 abbrev with-last : Line → Call
 with-last line = day (dayOf 1 (losing 1 0 H (pos 1) ∷ map (λ i. losing 1 i U (pos 1)) (range 1 254) ++ (line ∷ []))) 5
@@ -52,7 +73,7 @@ accounts-256 =
     ∷ []
 
 pub limit-lists : List (List Exchange)
-limit-lists = member-32 ∷ under-one under-16 ∷ under-one under-1 ∷ accounts-256 ∷ []
+limit-lists = member-32 ∷ under-one under-16 ∷ under-one under-1 ∷ one-by-one ∷ stress-outside ∷ accounts-256 ∷ []
 
 pub worked-limits : map (played start) limit-lists ≡ limit-lists
 unfolding limit-lists played computed

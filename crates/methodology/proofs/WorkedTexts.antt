@@ -351,6 +351,76 @@ texts =
     ∷ ("period\t1\t1\nmember\t1\t0\nday\t1\t1\nacct\t1\t0\tH\t10\t0\t0\t0\nday\t2\t2\nacct\t1\t0\tH\t10\t0\t0\t0\nacct\t1\tx\tU\t10\t0\t0\t0\nend\n" gives "day\t1\t10\t10\ndaily\t1\t10\t1000000000000\t1000\t1100\t2200\nrefused\t9\t7\n")
     -- days that leave numbers out
     ∷ ("period\t1\t1\nmember\t1\t0\nday\t1\t1\nacct\t1\t0\tH\t10\t0\t0\t0\nday\t9\t1\nacct\t1\t0\tH\t30\t0\t0\t0\nday\t31\t1\nacct\t1\t0\tH\t20\t0\t0\t0\nend\n" gives "day\t1\t10\t10\ndaily\t1\t10\t1000000000000\t1000\t1100\t2200\nday\t9\t30\t30\ndaily\t1\t30\t1000000000000\t3000\t3300\t6600\nday\t31\t20\t20\ndaily\t1\t20\t1000000000000\t2000\t2200\t4400\nfund\t3\t30\t50000000\ncontribution\t1\t33\t50000000\t100000000\n")
+    -- groups of three and of two
+    ∷ ("period\t7\t3\nmember\t1\t17\nmember\t2\t1\nmember\t3\t17\nmember\t4\t0\nmember\t5\t1\nmember\t6\t17\nmember\t7\t0\nday\t1\t7\nacct\t1\t0\tH\t10\t0\t0\t10\t0\t10\nacct\t2\t0\tH\t8\t0\t0\t8\t0\t8\nacct\t3\t0\tH\t10\t0\t0\t10\t0\t10\nacct\t4\t0\tH\t25\t0\t0\t25\t0\t25\nacct\t5\t0\tH\t8\t0\t0\t8\t0\t8\nacct\t6\t0\tH\t10\t0\t0\t10\t0\t10\nacct\t7\t0\tH\t1\t0\t0\t1\t0\t1\nday\t2\t7\nacct\t1\t0\tH\t10\t0\t0\t10\t0\t10\nacct\t2\t0\tH\t20\t0\t0\t20\t0\t20\nacct\t3\t0\tH\t10\t0\t0\t10\t0\t10\nacct\t4\t0\tH\t25\t0\t0\t25\t0\t25\nacct\t5\t0\tH\t20\t0\t0\t20\t0\t20\nacct\t6\t0\tH\t10\t0\t0\t10\t0\t10\nacct\t7\t0\tH\t1\t0\t0\t1\t0\t1\nday\t3\t8\nacct\t1\t0\tH\t20\t0\t0\t20\t0\t20\nacct\t2\t0\tH\t10\t0\t0\t10\t0\t10\nacct\t3\t0\tH\t20\t0\t0\t20\t0\t20\nacct\t4\t0\tH\t25\t0\t0\t25\t0\t25\nacct\t5\t0\tH\t10\t0\t0\t10\t0\t10\nacct\t6\t0\tH\t0\t15\t0\t0\t0\t0\nacct\t6\t1\tR\t5\t0\t0\t5\t0\t5\nacct\t7\t0\tH\t1\t0\t0\t1\t0\t1\nend\n" gives "day\t1\t72\t30\ndaily\t1\t10\t138888888889\t417\t458\t917\ndaily\t2\t8\t111111111112\t333\t367\t733\ndaily\t3\t10\t138888888889\t417\t458\t917\ndaily\t4\t25\t347222222223\t1042\t1146\t2292\ndaily\t5\t8\t111111111112\t333\t367\t733\ndaily\t6\t10\t138888888889\t417\t458\t917\ndaily\t7\t1\t13888888889\t42\t46\t92\nday\t2\t96\t40\ndaily\t1\t10\t104166666667\t417\t458\t917\ndaily\t2\t20\t208333333334\t833\t917\t1833\ndaily\t3\t10\t104166666667\t417\t458\t917\ndaily\t4\t25\t260416666667\t1042\t1146\t2292\ndaily\t5\t20\t208333333334\t833\t917\t1833\ndaily\t6\t10\t104166666667\t417\t458\t917\ndaily\t7\t1\t10416666667\t42\t46\t92\nday\t3\t86\t30\ndaily\t1\t20\t232558139535\t698\t767\t1535\ndaily\t2\t10\t116279069768\t349\t384\t767\ndaily\t3\t20\t232558139535\t698\t767\t1535\ndaily\t4\t25\t290697674419\t872\t959\t1919\ndaily\t5\t10\t116279069768\t349\t384\t767\ndaily\t6\t0\t0\t0\t0\t0\ndaily\t7\t1\t11627906977\t35\t38\t77\nfund\t3\t40\t350000000\ncontribution\t1\t7\t50000000\t100000000\ncontribution\t2\t7\t50000000\t100000000\ncontribution\t3\t7\t50000000\t100000000\ncontribution\t4\t14\t50000000\t100000000\ncontribution\t5\t7\t50000000\t100000000\ncontribution\t6\t4\t50000000\t100000000\ncontribution\t7\t1\t50000000\t100000000\n")
+    -- a stress -0
+    ∷ ("period\t2\t1\nmember\t1\t0\nmember\t2\t0\nday\t3\t2\nacct\t1\t0\tH\t390000000\t0\t0\t-0\nacct\t2\t0\tH\t10000000\t0\t0\t0\nend\n" gives "refused\t9\t5\n")
+    -- a stress 01
+    ∷ ("period\t2\t1\nmember\t1\t0\nmember\t2\t0\nday\t3\t2\nacct\t1\t0\tH\t390000000\t0\t0\t01\nacct\t2\t0\tH\t10000000\t0\t0\t0\nend\n" gives "refused\t9\t5\n")
+    -- a stress empty
+    ∷ ("period\t2\t1\nmember\t1\t0\nmember\t2\t0\nday\t3\t2\nacct\t1\t0\tH\t390000000\t0\t0\t\nacct\t2\t0\tH\t10000000\t0\t0\t0\nend\n" gives "refused\t9\t5\n")
+    -- a stress 10000000000000
+    ∷ ("period\t2\t1\nmember\t1\t0\nmember\t2\t0\nday\t3\t2\nacct\t1\t0\tH\t390000000\t0\t0\t10000000000000\nacct\t2\t0\tH\t10000000\t0\t0\t0\nend\n" gives "refused\t9\t5\n")
+    -- a stress +1
+    ∷ ("period\t2\t1\nmember\t1\t0\nmember\t2\t0\nday\t3\t2\nacct\t1\t0\tH\t390000000\t0\t0\t+1\nacct\t2\t0\tH\t10000000\t0\t0\t0\nend\n" gives "refused\t9\t5\n")
+    -- a minus in k
+    ∷ ("period\t2\t-1\nmember\t1\t0\nmember\t2\t0\nday\t3\t2\nacct\t1\t0\tH\t390000000\t0\t0\t0\nacct\t2\t0\tH\t10000000\t0\t0\t0\nend\n" gives "refused\t9\t1\n")
+    -- a minus in a member line's number
+    ∷ ("period\t2\t1\nmember\t-1\t0\nmember\t2\t0\nday\t3\t2\nacct\t1\t0\tH\t390000000\t0\t0\t0\nacct\t2\t0\tH\t10000000\t0\t0\t0\nend\n" gives "refused\t9\t2\n")
+    -- a minus in a group
+    ∷ ("period\t2\t1\nmember\t1\t-1\nmember\t2\t0\nday\t3\t2\nacct\t1\t0\tH\t390000000\t0\t0\t0\nacct\t2\t0\tH\t10000000\t0\t0\t0\nend\n" gives "refused\t9\t2\n")
+    -- a minus in a day's number
+    ∷ ("period\t2\t1\nmember\t1\t0\nmember\t2\t0\nday\t-3\t2\nacct\t1\t0\tH\t390000000\t0\t0\t0\nacct\t2\t0\tH\t10000000\t0\t0\t0\nend\n" gives "refused\t9\t4\n")
+    -- a minus in a count
+    ∷ ("period\t2\t1\nmember\t1\t0\nmember\t2\t0\nday\t3\t-2\nacct\t1\t0\tH\t390000000\t0\t0\t0\nacct\t2\t0\tH\t10000000\t0\t0\t0\nend\n" gives "refused\t9\t4\n")
+    -- a minus in an account's member
+    ∷ ("period\t2\t1\nmember\t1\t0\nmember\t2\t0\nday\t3\t2\nacct\t-1\t0\tH\t1\t0\t0\t0\nacct\t2\t0\tH\t10000000\t0\t0\t0\nend\n" gives "refused\t9\t5\n")
+    -- a minus in an account's number
+    ∷ ("period\t2\t1\nmember\t1\t0\nmember\t2\t0\nday\t3\t2\nacct\t1\t-1\tH\t1\t0\t0\t0\nacct\t2\t0\tH\t10000000\t0\t0\t0\nend\n" gives "refused\t9\t5\n")
+    -- a leading zero in n
+    ∷ ("period\t02\t1\nmember\t1\t0\nmember\t2\t0\nday\t3\t2\nacct\t1\t0\tH\t390000000\t0\t0\t0\nacct\t2\t0\tH\t10000000\t0\t0\t0\nend\n" gives "refused\t9\t1\n")
+    -- a leading zero in a group
+    ∷ ("period\t2\t1\nmember\t1\t00\nmember\t2\t0\nday\t3\t2\nacct\t1\t0\tH\t390000000\t0\t0\t0\nacct\t2\t0\tH\t10000000\t0\t0\t0\nend\n" gives "refused\t9\t2\n")
+    -- a leading zero in a day's number
+    ∷ ("period\t2\t1\nmember\t1\t0\nmember\t2\t0\nday\t03\t2\nacct\t1\t0\tH\t390000000\t0\t0\t0\nacct\t2\t0\tH\t10000000\t0\t0\t0\nend\n" gives "refused\t9\t4\n")
+    -- a leading zero in a count
+    ∷ ("period\t2\t1\nmember\t1\t0\nmember\t2\t0\nday\t3\t02\nacct\t1\t0\tH\t390000000\t0\t0\t0\nacct\t2\t0\tH\t10000000\t0\t0\t0\nend\n" gives "refused\t9\t4\n")
+    -- a leading zero in an account's member
+    ∷ ("period\t2\t1\nmember\t1\t0\nmember\t2\t0\nday\t3\t2\nacct\t01\t0\tH\t1\t0\t0\t0\nacct\t2\t0\tH\t10000000\t0\t0\t0\nend\n" gives "refused\t9\t5\n")
+    -- a leading zero in an account's number
+    ∷ ("period\t2\t1\nmember\t1\t0\nmember\t2\t0\nday\t3\t2\nacct\t1\t00\tH\t1\t0\t0\t0\nacct\t2\t0\tH\t10000000\t0\t0\t0\nend\n" gives "refused\t9\t5\n")
+    -- a leading zero in a margin
+    ∷ ("period\t2\t1\nmember\t1\t0\nmember\t2\t0\nday\t3\t2\nacct\t1\t0\tH\t1\t01\t0\t0\nacct\t2\t0\tH\t10000000\t0\t0\t0\nend\n" gives "refused\t9\t5\n")
+    -- a leading zero in an extra
+    ∷ ("period\t2\t1\nmember\t1\t0\nmember\t2\t0\nday\t3\t2\nacct\t1\t0\tH\t1\t1\t01\t0\nacct\t2\t0\tH\t10000000\t0\t0\t0\nend\n" gives "refused\t9\t5\n")
+    -- nothing for n
+    ∷ ("period\t\t1\nmember\t1\t0\nmember\t2\t0\nday\t3\t2\nacct\t1\t0\tH\t390000000\t0\t0\t0\nacct\t2\t0\tH\t10000000\t0\t0\t0\nend\n" gives "refused\t9\t1\n")
+    -- nothing for a group
+    ∷ ("period\t2\t1\nmember\t1\t\nmember\t2\t0\nday\t3\t2\nacct\t1\t0\tH\t390000000\t0\t0\t0\nacct\t2\t0\tH\t10000000\t0\t0\t0\nend\n" gives "refused\t9\t2\n")
+    -- nothing for a day's number
+    ∷ ("period\t2\t1\nmember\t1\t0\nmember\t2\t0\nday\t\t2\nacct\t1\t0\tH\t390000000\t0\t0\t0\nacct\t2\t0\tH\t10000000\t0\t0\t0\nend\n" gives "refused\t9\t4\n")
+    -- nothing for a margin
+    ∷ ("period\t2\t1\nmember\t1\t0\nmember\t2\t0\nday\t3\t2\nacct\t1\t0\tH\t1\t\t0\t0\nacct\t2\t0\tH\t10000000\t0\t0\t0\nend\n" gives "refused\t9\t5\n")
+    -- nothing for an extra
+    ∷ ("period\t2\t1\nmember\t1\t0\nmember\t2\t0\nday\t3\t2\nacct\t1\t0\tH\t1\t0\t\t0\nacct\t2\t0\tH\t10000000\t0\t0\t0\nend\n" gives "refused\t9\t5\n")
+    -- nothing for an account's number
+    ∷ ("period\t2\t1\nmember\t1\t0\nmember\t2\t0\nday\t3\t2\nacct\t1\t\tH\t1\t0\t0\t0\nacct\t2\t0\tH\t10000000\t0\t0\t0\nend\n" gives "refused\t9\t5\n")
+    -- a client of kind AA
+    ∷ ("period\t1\t1\nmember\t1\t0\nday\t3\t2\nacct\t1\t0\tH\t10\t0\t0\t0\nacct\t1\t1\tAA\t10\t0\t0\t0\nend\n" gives "refused\t5\t5\n")
+    -- a client of kind UU
+    ∷ ("period\t1\t1\nmember\t1\t0\nday\t3\t2\nacct\t1\t0\tH\t10\t0\t0\t0\nacct\t1\t1\tUU\t10\t0\t0\t0\nend\n" gives "refused\t5\t5\n")
+    -- a client of kind RX
+    ∷ ("period\t1\t1\nmember\t1\t0\nday\t3\t2\nacct\t1\t0\tH\t10\t0\t0\t0\nacct\t1\t1\tRX\t10\t0\t0\t0\nend\n" gives "refused\t5\t5\n")
+    -- a client of kind XU
+    ∷ ("period\t1\t1\nmember\t1\t0\nday\t3\t2\nacct\t1\t0\tH\t10\t0\t0\t0\nacct\t1\t1\tXU\t10\t0\t0\t0\nend\n" gives "refused\t5\t5\n")
+    -- a client of kind AX
+    ∷ ("period\t1\t1\nmember\t1\t0\nday\t3\t2\nacct\t1\t0\tH\t10\t0\t0\t0\nacct\t1\t1\tAX\t10\t0\t0\t0\nend\n" gives "refused\t5\t5\n")
+    -- a client of kind A and CR
+    ∷ ("period\t1\t1\nmember\t1\t0\nday\t3\t2\nacct\t1\t0\tH\t10\t0\t0\t0\nacct\t1\t1\tA\r\t10\t0\t0\t0\nend\n" gives "refused\t5\t5\n")
+    -- a client of kind U and CR
+    ∷ ("period\t1\t1\nmember\t1\t0\nday\t3\t2\nacct\t1\t0\tH\t10\t0\t0\t0\nacct\t1\t1\tU\r\t10\t0\t0\t0\nend\n" gives "refused\t5\t5\n")
+    -- a kind of byte 255
+    ∷ ("period\t1\t1\nmember\t1\t0\nday\t3\t2\nacct\t1\t0\tH\t10\t0\t0\t0\nacct\t1\t1\tÿ\t10\t0\t0\t0\nend\n" gives "refused\t9\t5\n")
     -- valid 0
     ∷ ("period\t4\t3\nmember\t1\t26\nmember\t2\t26\nmember\t3\t26\nmember\t4\t26\nday\t13\t14\nacct\t1\t0\tH\t-262899683022\t0\t0\t-668629069849\t567526038730\t-863218408590\nacct\t2\t0\tH\t-346605624023\t616466234476\t0\t501347962222\t-963071858498\t-653111635317\nacct\t2\t1\tR\t-432304380642\t188938951965\t0\t-857350163596\t144632401607\t-648863850673\nacct\t2\t2\tR\t-432304380642\t188938951965\t0\t-857350163596\t144632401607\t-648863850673\nacct\t2\t4\tR\t514477493977\t605846778877\t0\t-110576346448\t-278584670675\t-168457334601\nacct\t2\t5\tA\t645405390379\t789754674057\t578186029328\t1000000000000\t218111238757\t-144349283678\nacct\t2\t6\tR\t645405390379\t789754674057\t578186029328\t1000000000000\t218111238757\t-144349283678\nacct\t2\t7\tU\t-515256285254\t484743714748\t484743714748\t397475177865\t-1000000000000\t-1000000000000\nacct\t2\t8\tR\t165165596453\t658362864412\t0\t798964899690\t456741760665\t1000000000000\nacct\t2\t9\tR\t165165596453\t658362864412\t0\t798964899690\t456741760665\t1000000000000\nacct\t2\t10\tA\t476103379618\t718676592968\t0\t571407212819\t-242573213351\t80482904064\nacct\t2\t11\tU\t905277672245\t0\t0\t1000000000000\t279297138232\t1000000000000\nacct\t3\t0\tH\t79063012331\t847770741368\t0\t-701352662683\t136668072040\t-768707729034\nacct\t4\t0\tH\t992053526993\t271218593446\t0\t720834933547\t1000000000000\t861118431922\nend\n" gives "day\t13\t3752491681240\t2191145079813\ndaily\t1\t600318725568\t159978695908\t35053653241232\t38559018565355\t77118037130710\ndaily\t2\t3152172955672\t840021304093\t184060854740068\t202466940214075\t404933880428150\ndaily\t3\t0\t0\t0\t0\t0\ndaily\t4\t0\t0\t0\t0\t0\nfund\t1\t2191145079813\t2410359587798\ncontribution\t1\t385590185656\t385590185656\t771180371312\ncontribution\t2\t2024669402142\t2024669402142\t4049338804284\ncontribution\t3\t0\t50000000\t100000000\ncontribution\t4\t0\t50000000\t100000000\n")
     -- valid 1
