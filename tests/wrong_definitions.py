@@ -4,8 +4,8 @@
 Definitions are held by the worked tables alone: contract, code and proofs can follow a wrong one.
 This changes the definitions of document 01 (crates/methodology/specs, and those of crates/numbers
 that they are made of) in one place at a time: a constant by one, an operator, a name by another of
-its type, two arguments exchanged, a condition, a factor or a row dropped, rows or fields in another
-order; and in the ways listed by hand below. Each wrong definition is checked with the tables and
+its type, two arguments exchanged, a list cut short, a condition, a factor or a row dropped, rows or
+fields in another order; and in the ways listed by hand below. Each wrong definition is checked with the tables and
 without any other proof. It is held where a table no longer computes.
 
 Prints each one that the tables let through and that is not known to say the same as the right
@@ -57,11 +57,15 @@ SAME_TYPE = [names.split() for names in (
 )]
 # Their arguments may change places.
 COMMUTE = ("eqb", "max", "same")
+# Which argument of these is a list, to be cut short.
+OVER_A_LIST = {"Σ": 1, "Σℤ": 1, "Σᶠ": 1, "greatest": 1, "any": 2, "keep": 2, "map": 2, "flatMap": 2, "firstWhere": 2}
 # Where a name that stands in another's place is defined, if its file does not have it.
 FROM = {
     "leb": "lib.Dec", "min": "Prim.Native.Nat", "_+_": "Prim.Native.Nat", "_-_": "Prim.Native.Nat",
     "_/_": "Prim.Native.Nat", "_%_": "Prim.Native.Nat", "_-ℤ_": "lib.IntN", "_+ℤ_": "lib.IntN",
-    "negsuc": "lib.IntN", "not": "mathlib.Core.Bool", "_||_": "mathlib.Core.Bool",
+    "negsuc": "lib.IntN", "pos": "lib.IntN", "max": "Prim.Native.Nat", "_*_": "Prim.Native.Nat",
+    "range": "Rattle.numbers.specs.Lists", "Σℤ": "Rattle.numbers.specs.Sums", "_⁺": "Rattle.numbers.specs.Signed",
+    "cond": "mathlib.Core.Bool", "eqb": "lib.Dec", "length": "lib.ListN", "ltb": "lib.Dec", "not": "mathlib.Core.Bool", "_||_": "mathlib.Core.Bool",
     "_&&_": "mathlib.Core.Bool", "roundDiv": "Rattle.numbers.specs.Rounding",
     "ceilDiv": "Rattle.numbers.specs.Rounding", "Σ": "Rattle.numbers.specs.Sums",
     "greatest": "Rattle.numbers.specs.Sums", "_⁻": "Rattle.numbers.specs.Signed",
@@ -70,7 +74,7 @@ FROM = {
 
 # ---- wrong definitions that no change of one word makes: file, right, wrong
 
-BY_HAND = [line.split(" | ") for line in """
+BY_HAND = [line.replace("⏎", "\n    ").split(" | ") for line in """
 Contribution.highest | greatest days (λ d. maxEul o (d .accounts)) | greatest (take 1 days) (λ d. maxEul o (d .accounts))
 Contribution.highest | greatest days (λ d. maxEul o (d .accounts)) | greatest (drop (length days - 1) days) (λ d. maxEul o (d .accounts))
 Contribution.highest | greatest days (λ d. maxEul o (d .accounts)) | greatest (take 2 days) (λ d. maxEul o (d .accounts))
@@ -108,15 +112,30 @@ Member.halfOfClients | ceilDiv (Σ (keep isClient accts) (λ a. eul a ⁺)) 2 | 
 Member.twoLargestOfR | take 2 (descending | drop 0 (descending
 Member.partC | (λ a. eul a ⁺) | (λ a. eul a ⁻)
 Member.loss | memberOwn k accts m ⁺ | greatest (range 1 k) (λ j. memberUnder accts m j ⁺)
-Refusals.notRising | eqb (prev .member) (h .member) && ltb (prev .number) (h .number) | ltb (prev .number) (h .number)
 Refusals.memberSkipped | ltb (prev .member + 1) (h .member) | ltb 0 (prev .member) && ltb (prev .member + 1) (h .member)
-Refusals.lastMissing | eqb (h .member) n | eqb (h .member) n && eqb (h .number) 0
 Refusals.firstBadHeading | suc (firstBadHeading n h hs) | suc (firstBadHeading n prev hs)
 Refusals.badAmount | any npvOutside (a .npvs) | any npvOutside (drop 1 (a .npvs))
 Refusals.badAmount | any npvOutside (a .npvs) | any npvOutside (take 2 (a .npvs))
-Register.lastNumber | lastNumber (d ∷ ds) = d .number | lastNumber (d ∷ ds) = max (d .number) (lastNumber ds + 1)
 Register.step | ifAccepted (refusal g c) (accept g c) g | accept g c
 Register.buffer | ifAccepted (refusal g c) (written (step g c) c) before | written (step g c) c
+Contribution.raw | (length days) | (length (take 3 days))
+Day.groupOf | (keep (λ m′. eqb (groupNumber o m′) (groupNumber o m)) (members (o .n))) | (take 2 (keep (λ m′. eqb (groupNumber o m′) (groupNumber o m)) (members (o .n))))
+Day.groupOf | eqb (groupNumber o m′) (groupNumber o m) | eqb (groupNumber o m′ % 16) (groupNumber o m % 16)
+Member.partC | Σ (keep isAorU accts) (λ a. eul a ⁺) | Σℤ (keep isAorU accts) eul ⁺
+Member.twoLargestOfR | map (λ a. eul a ⁺) (keep isR accts) | map (λ a. eul a ⁺) (take 2 (keep isR accts))
+Member.partB | max (halfOfClients eul accts) (twoLargestOfR eul accts) | cond (ltb 1 (length (keep isR accts))) (max (halfOfClients eul accts) (twoLargestOfR eul accts)) (halfOfClients eul accts)
+Refusals.badInput | (count * (o .k + 1)))⏎|| not (eqb (length (d .margins)) count)⏎|| not (eqb (length (d .extras)) count) | (length (d .margins) * (o .k + 1)))⏎|| not (eqb (length (d .margins)) (length (d .extras)))
+Refusals.badAmount | any npvOutside (a .npvs) | any npvOutside (take 3 (a .npvs))
+Refusals.badAmount | any npvOutside (a .npvs) | any npvOutside (take 16 (a .npvs))
+Refusals.firstNotZero | not (eqb (prev .member) (h .member)) && | ltb 0 (prev .member) && not (eqb (prev .member) (h .member)) &&
+Refusals.memberSkipped | ltb (prev .member + 1) (h .member) | eqb (prev .member + 2) (h .member)
+Refusals.dayRefusal | row 3 when badDayNumber last (d .number) else⏎row 5 at bad5 when ltb bad5 count || lastMissing (o .n) (d .headings) else | row 3 when outside 1 31 (d .number) else⏎row 5 at bad5 when ltb bad5 count || lastMissing (o .n) (d .headings) else⏎row 3 when leb (d .number) last else
+Refusals.dayRefusal | row 4 when badLengths o d room else⏎row 3 when badDayNumber last (d .number) else | row 4 when badInput o d else⏎row 3 when badDayNumber last (d .number) else⏎row 4 when badOutput o room else
+Register.accept | status = Open; held = o; days = [] | status = Open; held = o; days = cond (eqb (o .n) (g .held .n)) (g .days) []
+Register.accept | held = o; days = [] | held = record { n = o .n; k = o .k; groups = cond (eqb (o .n) (g .held .n)) (g .held .groups) (o .groups) }; days = []
+Register.step | ifAccepted (refusal g c) (accept g c) g | ifAccepted (refusal g c) (accept g c) (record { status = g .status; held = g .held; days = take 1 (g .days) })
+Rounding.roundDiv | (2 * p + q) / (2 * q) | cond (eqb ((2 * p + q) % (2 * q)) 0) ((2 * p + q) / (2 * q) / 2 * 2) ((2 * p + q) / (2 * q))
+Rounding.roundDiv | (2 * p + q) / (2 * q) | (2 * p + (q - 1)) / (2 * q)
 Text.signedOf | (below0 (numberOf (drop 1 f))) | (below0 (numberOf (take 13 (drop 1 f))))
 Text.kindOf | kindU 9 | kindU 3
 Text.kindOf | cond (same f (bytes "H")) | cond (same f (bytes "H") || same f (bytes "h"))
@@ -234,7 +253,7 @@ def word_changes(tokens):
 
 
 def order_changes(text, tokens):
-    """Two arguments exchanged, an operand dropped, two elements of a list exchanged."""
+    """A list cut short, two arguments exchanged, an operand dropped, two elements of a list exchanged."""
     for items in sequences(tokens):
         parts = operands(items)
         for i in range(0, len(parts) - 2, 2):
@@ -247,6 +266,11 @@ def order_changes(text, tokens):
             if middle[0].text not in ("∷", "-ℤ"):
                 yield start, end, text[c:d]
         for part in parts[::2] if parts else [items]:
+            cut = OVER_A_LIST.get(part[0].text, len(part))
+            if cut < len(part):
+                start, end = span([part[cut]])
+                for short in ("take 1", "take 2", "take 3", "drop 1"):
+                    yield start, end, f"({short} {text[start:end]})"
             if any(item.text.startswith(".") and item.text[1:] for item in part):
                 continue
             for one, two in zip(part[1:], part[2:]) if part[0].text not in COMMUTE else ():
@@ -307,7 +331,7 @@ def wrong_definitions():
             text = source.read()
         start = text.find(right, text.index(f"\n{definition} "))
         assert start >= 0, f"{place}: its text has moved: {right}"
-        add(path, start, start + len(right), wrong, definition, f"{right} → {wrong}")
+        add(path, start, start + len(right), wrong, definition, f"by hand: {right} → {wrong}")
     return out
 
 
@@ -425,15 +449,9 @@ def with_names(text, new):
 
 
 def known():
-    """What tests/equivalent_definitions.txt has: a reason above each wrong definition."""
-    reasons, reason = {}, ""
+    """The changes that say the same, as tests/equivalent_definitions.txt lists them."""
     with open(os.path.join(os.path.dirname(os.path.abspath(__file__)), "equivalent_definitions.txt"), encoding="utf8") as file:
-        for line in file:
-            if line.startswith("# "):
-                reason = line[2:].strip()
-            elif line.strip():
-                reasons[line.strip()] = reason
-    return reasons
+        return {line.strip() for line in file if line.strip() and not line.startswith("#")}
 
 
 def main():
@@ -458,6 +476,8 @@ def main():
                 for one, verdict in verdicts:
                     if one.name.endswith(UNCHANGED) and verdict != "let through":
                         raise SystemExit(f"the right definitions are refused: {one.name}, {verdict}")
+                    if ": by hand: " in one.name and verdict == "no definition":
+                        raise SystemExit(f"no definition: {one.name}")
                     if verdict == "let through":
                         through.append(one)
                     else:

@@ -464,6 +464,6 @@ pub letters : map (λ (s : String). kindOf (bytes s)) ("H" ∷ "R" ∷ "A" ∷ "
 unfolding computed reads
 letters = refl
 
-pub longest : decimal 18446744073709551615 ≡ bytes "18446744073709551615"
+pub longest : decimal 99999999999999999999 ≡ bytes "99999999999999999999"
 unfolding computed reads
 longest = refl
