@@ -22,7 +22,7 @@ pub struct Input {
 }
 
 // What one read brought, by what libc's answered: a negative number where it failed, 0 where the input has ended.
-fn brought(got: isize, text: &[u8]) -> Input
+fn read_result(got: isize, text: &[u8]) -> Input
     ensures { λ r. ⌜ r .failed ≡ isNegative got ⌝ }
     ensures { λ r. ⌜ r .bytes ≡ clamped got (length (now (text .entry))) ⌝ }
     ensures { λ r. ⌜ r .bytes ≤ length (now (text .entry)) ⌝ }
@@ -46,7 +46,7 @@ fn read_some(from: i32, text: &mut [u8]) -> Input
 {
     let end = piece(text.len());
     let got = libc::read(from, &mut text[0..end]);
-    brought(got, text)
+    read_result(got, text)
 }
 
 // Reads until the input ends or the buffer is full.
