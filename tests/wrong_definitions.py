@@ -5,13 +5,13 @@ Definitions are held by the worked tables alone: contract, code and proofs can f
 This changes the definitions of document 01 (crates/methodology/specs, and those of crates/numbers
 that they are made of) in one place at a time: a constant by one, an operator, a name by another of
 its type, two arguments exchanged, a list cut short, a condition, a factor or a row dropped, rows or
-fields in another order; and in the ways listed by hand below. Each wrong definition is checked with the tables and
-without any other proof. It is held where a table no longer computes.
+fields in another order; and in the ways listed by hand below. Each wrong definition is checked with
+the tables and no other proof. It is held where a table no longer computes.
 
 Prints each one that the tables let through and that is not known to say the same as the right
 definition (tests/equivalent_definitions.txt, with reasons), then how many there were. Exits with 1
-where one is left. Needs rt on the path; --only takes those whose description has WORD, --list shows
-them without a check.
+where one is left, or one is known that is no longer made. Needs rt on the path. --only takes those
+whose description has WORD, --list shows them without a check.
 """
 import argparse
 import multiprocessing
@@ -24,14 +24,19 @@ import tempfile
 from collections import Counter, namedtuple
 
 TOP = os.path.join(os.path.dirname(os.path.abspath(__file__)), "..", "crates")
-# First no table, to see what is a definition at all; then the tables, those that take least time first, since what one lets through is
-# held to the next; with how many wrong definitions are checked at once.
+# First no table, to see what is a definition at all; then the tables, those that take least time
+# first, since what one lets through is held to the next; each with how many are checked at once.
 STAGES = ((None, 40), ("WorkedCalls", 12), ("Figures", 12), ("WorkedTexts", 12), ("WorkedLimits", 4))
 # Words for proofs and code, of which no statement of the outside speaks.
 NOT_OF_THE_DOCUMENT = ("Lines", "Lib")
 
 # A wrong definition: its file, the part of it that is replaced, and what it is called.
 Wrong = namedtuple("Wrong", "file start end new name")
+
+
+def module_of(wrong):
+    return os.path.basename(wrong.file)[:-5]
+
 
 # ---- names and operators, each with what could stand in its place
 
@@ -64,8 +69,9 @@ FROM = {
     "leb": "lib.Dec", "min": "Prim.Native.Nat", "_+_": "Prim.Native.Nat", "_-_": "Prim.Native.Nat",
     "_/_": "Prim.Native.Nat", "_%_": "Prim.Native.Nat", "_-ℤ_": "lib.IntN", "_+ℤ_": "lib.IntN",
     "negsuc": "lib.IntN", "pos": "lib.IntN", "max": "Prim.Native.Nat", "_*_": "Prim.Native.Nat",
-    "range": "Rattle.numbers.specs.Lists", "Σℤ": "Rattle.numbers.specs.Sums", "_⁺": "Rattle.numbers.specs.Signed",
-    "cond": "mathlib.Core.Bool", "eqb": "lib.Dec", "length": "lib.ListN", "ltb": "lib.Dec", "not": "mathlib.Core.Bool", "_||_": "mathlib.Core.Bool",
+    "range": "Rattle.numbers.specs.Lists", "Σℤ": "Rattle.numbers.specs.Sums",
+    "_⁺": "Rattle.numbers.specs.Signed", "cond": "mathlib.Core.Bool", "eqb": "lib.Dec",
+    "length": "lib.ListN", "ltb": "lib.Dec", "not": "mathlib.Core.Bool", "_||_": "mathlib.Core.Bool",
     "_&&_": "mathlib.Core.Bool", "roundDiv": "Rattle.numbers.specs.Rounding",
     "ceilDiv": "Rattle.numbers.specs.Rounding", "Σ": "Rattle.numbers.specs.Sums",
     "greatest": "Rattle.numbers.specs.Sums", "_⁻": "Rattle.numbers.specs.Signed",
@@ -116,6 +122,7 @@ Refusals.memberSkipped | ltb (prev .member + 1) (h .member) | ltb 0 (prev .membe
 Refusals.firstBadHeading | suc (firstBadHeading n h hs) | suc (firstBadHeading n prev hs)
 Refusals.badAmount | any npvOutside (a .npvs) | any npvOutside (drop 1 (a .npvs))
 Refusals.badAmount | any npvOutside (a .npvs) | any npvOutside (take 2 (a .npvs))
+Refusals.openingRefusal | row 2 when isOpen s else row 1 when badOpening o | row 1 when badOpening o else row 2 when isOpen s
 Register.step | ifAccepted (refusal g c) (accept g c) g | accept g c
 Register.buffer | ifAccepted (refusal g c) (written (step g c) c) before | written (step g c) c
 Contribution.raw | (length days) | (length (take 3 days))
@@ -278,7 +285,7 @@ def order_changes(text, tokens):
                     yield one.start, two.end, text[two.start:two.end] + text[one.end:two.start] + text[one.start:one.end]
 
 
-def row_changes(text, path):
+def row_changes(text):
     """A row of the refusal table dropped, or exchanged with the next."""
     lines = list(re.finditer(r"    row .*? else\n", text))
     for i, row in enumerate(lines):
@@ -287,6 +294,11 @@ def row_changes(text, path):
             after = lines[i + 1]
             yield (row.start(), after.end(), after.group() + row.group(),
                    f"row {after.group().split()[1]} before row {row.group().split()[1]}")
+
+
+def source(path):
+    with open(os.path.join(TOP, path), encoding="utf8") as file:
+        return file.read()
 
 
 def wrong_definitions():
@@ -305,8 +317,7 @@ def wrong_definitions():
             if file[:-5] in NOT_OF_THE_DOCUMENT:
                 continue
             path = os.path.join(crate, "specs", file)
-            with open(os.path.join(TOP, path), encoding="utf8") as source:
-                text = source.read()
+            text = source(path)
             out.append(Wrong(path, 0, 0, "", file[:-5] + UNCHANGED))
             for definition, tokens in definitions(text):
                 held = set()
@@ -321,14 +332,12 @@ def wrong_definitions():
                     if (start, end, new) not in held and text[start:end] != new:
                         held.add((start, end, new))
                         add(path, start, end, new, definition, f"{text[start:end]} → {new}")
-            for start, end, new, change in row_changes(text, path):
+            for start, end, new, change in row_changes(text):
                 add(path, start, end, new, "table", f"{change} at {text[:start].count(chr(10)) + 1}")
     for place, right, wrong in BY_HAND:
         file, definition = place.split(".")
-        crate = "numbers" if not os.path.exists(os.path.join(TOP, "methodology", "specs", file + ".antt")) else "methodology"
-        path = os.path.join(crate, "specs", file + ".antt")
-        with open(os.path.join(TOP, path), encoding="utf8") as source:
-            text = source.read()
+        path = next(one.file for one in out if module_of(one) == file)
+        text = source(path)
         start = text.find(right, text.index(f"\n{definition} "))
         assert start >= 0, f"{place}: its text has moved: {right}"
         add(path, start, start + len(right), wrong, definition, f"by hand: {right} → {wrong}")
@@ -340,26 +349,21 @@ def wrong_definitions():
 MODULE = re.compile(r"Rattle·(?:numbers|methodology)(?:·specs|·proofs)?\.(specs|proofs)\.(\w+)")
 
 
-def module_of(wrong):
-    return os.path.basename(wrong.file)[:-5]
-
-
 class Modules:
     """The definitions and a table, all in one crate, by name: folder and text."""
     def __init__(self, table):
         self.table, self.folder, self.text, self.uses = table, {}, {}, {}
         for crate, folder, names in (("numbers", "specs", None), ("methodology", "specs", None),
-                                     ("methodology", "proofs", table and ("Samples", table) or ("none",))):
+                                     ("methodology", "proofs", ("Samples", table) if table else ("none",))):
             for file in sorted(os.listdir(os.path.join(TOP, crate, folder))):
                 name = file[:-5]
                 if name in NOT_OF_THE_DOCUMENT or not file.endswith(".antt") or names and name not in names:
                     continue
-                with open(os.path.join(TOP, crate, folder, file), encoding="utf8") as source:
-                    self.folder[name], self.text[name] = folder, source.read()
+                self.folder[name], self.text[name] = folder, source(os.path.join(crate, folder, file))
         for name, text in self.text.items():
             self.uses[name] = {used for _, used in MODULE.findall(text)} & set(self.text)
-
-        self.below = {table} | {name for name in self.text if not table}
+        # what the table rests on
+        self.below = {table} if table else set(self.text)
         for _ in self.text:
             self.below |= {used for name in self.below & set(self.text) for used in self.uses[name]}
 
@@ -451,7 +455,7 @@ def with_names(text, new):
 def known():
     """The changes that say the same, as tests/equivalent_definitions.txt lists them."""
     with open(os.path.join(os.path.dirname(os.path.abspath(__file__)), "equivalent_definitions.txt"), encoding="utf8") as file:
-        return {line.strip() for line in file if line.strip() and not line.startswith("#")}
+        return {line.strip() for line in list(file)[1:] if line.strip() and not line.startswith("#")}
 
 
 def main():
@@ -465,7 +469,7 @@ def main():
         print("\n".join(w.name for w in wrong))
         print(len(wrong))
         return
-    same, count, left = known(), Counter(), []
+    same, made, count, left = known(), {one.name for one in wrong}, Counter(), []
     with multiprocessing.Pool(given.jobs) as pool:
         for table, size in STAGES:
             modules = Modules(table)
@@ -493,10 +497,13 @@ def main():
             count["let through"] += 1
             left.append(one.name)
             print("let through:", one.name)
+    stale = same - made if not given.only else set()
+    for name in sorted(stale):
+        print("known to say the same, and no longer made:", name)
     for verdict, times in sorted(count.items()):
         print(f"{times:6} {verdict}")
     print(f"{sum(count.values()) - count['no definition']} wrong definitions, {len(left)} left")
-    sys.exit(1 if left or count["no verdict"] else 0)
+    sys.exit(1 if left or stale or count["no verdict"] else 0)
 
 
 if __name__ == "__main__":
