@@ -171,6 +171,8 @@ exact-cases =
     -- three days, by hand: 11 · 400m / 30 of 400/600 + 100/400 + 70/100, and of 200/600 + 300/400 + 30/100
     ∷ exact worst-first (groups (0 ∷ 0 ∷ [])) 1 is-fraction 2134000000 over 9
     ∷ exact worst-last (groups (0 ∷ 0 ∷ [])) 2 is-fraction 1826000000 over 9
+    -- four days: 11 · 10 / 40 of 10/20 + 4/10 + 3/10 + 1/10
+    ∷ exact ((pos 10 ∷ pos 10 ∷ []) ∷ (pos 4 ∷ pos 6 ∷ []) ∷ (pos 3 ∷ pos 7 ∷ []) ∷ (pos 1 ∷ pos 9 ∷ []) ∷ []) (groups (0 ∷ 0 ∷ [])) 1 is-fraction 143 over 40
     -- one scenario, under which the stresses are not 0: 11 · 6 / 10 of 6/8, and of 2/8
     ∷ exactCharge (groups (0 ∷ 0 ∷ [])) (stressed ∷ []) 1 is-fraction 99 over 20
     ∷ exactCharge (groups (0 ∷ 0 ∷ [])) (stressed ∷ []) 2 is-fraction 33 over 20

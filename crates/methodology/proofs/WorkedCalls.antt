@@ -228,6 +228,7 @@ while-fresh =
     ∷ brings 3 2 (33 ∷ 4 ∷ 0 ∷ []) gets refused 1
     ∷ brings 3 2 (4 ∷ 33 ∷ 0 ∷ []) gets refused 1
     ∷ brings 3 2 (4 ∷ 4 ∷ 33 ∷ []) gets refused 1
+    ∷ brings 32 1 (replicate 31 0 ++ (33 ∷ [])) gets refused 1
     ∷ brings 3 2 (4 ∷ 4 ∷ []) gets refused 1
     ∷ brings 3 2 (4 ∷ 4 ∷ 0 ∷ 0 ∷ []) gets refused 1
     ∷ brings 3 2 (4 ∷ 4 ∷ 0 ∷ []) gets accepted []
@@ -478,6 +479,26 @@ two-groups =
     ∷ [])
     ∷ []
 
+-- The last member of four loses under the last scenario of four alone, and its Affiliate is covered: Max EUL is that member's.
+abbrev last-of-four : List Exchange
+last-of-four =
+    brings 4 4 (6 ∷ 0 ∷ 0 ∷ 6 ∷ []) gets accepted []
+    ∷ day
+    (dayOf 1
+    (acct 1 0 H (pos 0) 30 0 (replicate 4 (pos 0))
+    ∷ acct 2 0 H (pos 1) 0 0 (replicate 4 (pos 0))
+    ∷ acct 3 0 H (pos 0) 0 0 (replicate 4 (pos 0))
+    ∷ acct 4 0 H (pos 100) 0 0 (pos 100 ∷ pos 100 ∷ pos 100 ∷ pos 0 ∷ [])
+    ∷ []))
+    20
+    gets accepted (101 ∷ 100 ∷ [])
+    writing (0 ∷ 0 ∷ 0 ∷ 0 ∷ 0
+    ∷ 1 ∷ 9900990100 ∷ 99 ∷ 109 ∷ 218
+    ∷ 0 ∷ 0 ∷ 0 ∷ 0 ∷ 0
+    ∷ 100 ∷ 990099009901 ∷ 9901 ∷ 10891 ∷ 21782
+    ∷ [])
+    ∷ []
+
 -- each list of calls starts from a fresh register
 pub lists : List (List Exchange)
 lists =
@@ -491,6 +512,7 @@ lists =
     ∷ client-days
     ∷ every-kind
     ∷ two-groups
+    ∷ last-of-four
     ∷ halves
     ++ (at-minimum ++ opened-at-limits)
 

@@ -283,6 +283,12 @@ texts =
     ∷ ("period\t1\t1\nmember\t1\t0\nday\t3\t1\nacct\t1\t0\tH\t1:\t0\t0\t0\nend\n" gives "refused\t9\t4\n")
     -- 1 and slash for a digit
     ∷ ("period\t1\t1\nmember\t1\t0\nday\t3\t1\nacct\t1\t0\tH\t1/\t0\t0\t0\nend\n" gives "refused\t9\t4\n")
+    -- 1x0 for a number
+    ∷ ("period\t1\t1\nmember\t1\t0\nday\t3\t1\nacct\t1\t0\tH\t1x0\t0\t0\t0\nend\n" gives "refused\t9\t4\n")
+    -- 10x for a number
+    ∷ ("period\t1\t1\nmember\t1\t0\nday\t3\t1\nacct\t1\t0\tH\t10x\t0\t0\t0\nend\n" gives "refused\t9\t4\n")
+    -- 100000000000x for a number
+    ∷ ("period\t1\t1\nmember\t1\t0\nday\t3\t1\nacct\t1\t0\tH\t100000000000x\t0\t0\t0\nend\n" gives "refused\t9\t4\n")
     -- scenario 16 alone, group 32, day 31
     ∷ ("period\t2\t16\nmember\t1\t32\nmember\t2\t32\nday\t31\t2\nacct\t1\t0\tH\t5\t0\t0\t5\t5\t5\t5\t5\t5\t5\t5\t5\t5\t5\t5\t5\t5\t5\t2\nacct\t2\t0\tH\t9\t0\t0\t9\t9\t9\t9\t9\t9\t9\t9\t9\t9\t9\t9\t9\t9\t9\t5\nend\n" gives "day\t31\t7\t7\ndaily\t1\t3\t428571428572\t300\t330\t660\ndaily\t2\t4\t571428571429\t400\t440\t880\nfund\t1\t7\t100000000\ncontribution\t1\t4\t50000000\t100000000\ncontribution\t2\t5\t50000000\t100000000\n")
     -- member 32
