@@ -1,5 +1,6 @@
 -- Document 01, "Figures to hold it to": cases 1 to 10 as one table, and one theorem: each figure that the definitions give is the one due.
--- By computation. Every case starts from accounts in a day's slices; 9 and 10 go through the calls of a period.
+-- By computation. Every case starts from accounts in a day's slices; 9 and 10 go through the calls of a period. Then, beyond document 01,
+-- what its figures leave open: a whole month, exact charges, allowances and shortfalls, and words that no answer shows.
 use mathlib.Core.Path.{_≡_, refl}
 use mathlib.Core.List.{List, [], _∷_, _++_, map}
 use Prim.Native.Nat.{ℕ, suc, _+_, _-_, _*_, _<_, min}
@@ -120,14 +121,17 @@ cases =
     is (165000000 ∷ 165000000 ∷ 330000000 ∷ 495000000 ∷ 495000000 ∷ 990000000 ∷ [])
     ∷ []
 
--- Beyond document 01: 31 days on which two members lose i and 33 - i million on day i, so that M is the first day's.
-pub whole-month : closed (groups (0 ∷ 0 ∷ [])) (map (λ i. pos (i * 1000000) ∷ pos ((33 - i) * 1000000) ∷ []) (range 1 31)) ≡ 17066667 ∷ 50000000 ∷ 100000000 ∷ 18133334 ∷ 50000000 ∷ 100000000 ∷ []
-unfolding computed
-whole-month = refl
-
 pub ten-figures : map (λ (c : Case). c .got) cases ≡ map (λ (c : Case). c .due) cases
 unfolding cases computed
 ten-figures = refl
+
+-- Beyond document 01: 31 days, on day i of which two members lose i and 33 - i million, so that M is the first day's.
+abbrev month-of-31 : List (List ℤ)
+month-of-31 = map (λ i. pos (i * 1000000) ∷ pos ((33 - i) * 1000000) ∷ []) (range 1 31)
+
+pub whole-month : closed (groups (0 ∷ 0 ∷ [])) month-of-31 ≡ 17066667 ∷ 50000000 ∷ 100000000 ∷ 18133334 ∷ 50000000 ∷ 100000000 ∷ []
+unfolding computed
+whole-month = refl
 
 -- what demand 3 holds cases 9 and 10 to, with nothing rounded: a fraction is p over q where its cross products agree and its denominator is
 -- above 0

@@ -66,7 +66,10 @@ three-days first second third =
 -- five days; M is the first one's, or the last one's where they come the other way round
 abbrev five-days : List (ℕ → Exchange)
 five-days =
-    (λ number. losses number (10 ∷ 10 ∷ []) gets accepted (20 ∷ 10 ∷ []) writing (10 ∷ 500000000000 ∷ 500 ∷ 550 ∷ 1100 ∷ 10 ∷ 500000000000 ∷ 500 ∷ 550 ∷ 1100 ∷ []))
+    (λ number.
+    losses number (10 ∷ 10 ∷ [])
+    gets accepted (20 ∷ 10 ∷ [])
+    writing (10 ∷ 500000000000 ∷ 500 ∷ 550 ∷ 1100 ∷ 10 ∷ 500000000000 ∷ 500 ∷ 550 ∷ 1100 ∷ []))
     ∷ (λ number. losses number (4 ∷ 6 ∷ []) gets accepted (10 ∷ 6 ∷ []) writing (4 ∷ 400000000000 ∷ 240 ∷ 264 ∷ 528 ∷ 6 ∷ 600000000000 ∷ 360 ∷ 396 ∷ 792 ∷ []))
     ∷ (λ number. losses number (3 ∷ 7 ∷ []) gets accepted (10 ∷ 7 ∷ []) writing (3 ∷ 300000000000 ∷ 210 ∷ 231 ∷ 462 ∷ 7 ∷ 700000000000 ∷ 490 ∷ 539 ∷ 1078 ∷ []))
     ∷ (λ number. losses number (1 ∷ 9 ∷ []) gets accepted (10 ∷ 9 ∷ []) writing (1 ∷ 100000000000 ∷ 90 ∷ 99 ∷ 198 ∷ 9 ∷ 900000000000 ∷ 810 ∷ 891 ∷ 1782 ∷ []))
