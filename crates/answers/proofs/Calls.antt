@@ -6,7 +6,8 @@ use mathlib.Core.List.{List, [], _∷_, _++_, append-nil}
 use Prim.Native.Nat.{ℕ, _+_, _*_}
 use lib.ListN.{length}
 use Rattle.methodology.specs.declared.Refusal.the-variants.{Clear}
-use Rattle.methodology.specs.Account.{Opening, DayInput}
+use Rattle.methodology.specs.declared.Opening.{Opening}
+use Rattle.methodology.specs.Account.{DayInput}
 use Rattle.methodology.specs.Register.{Call, Register, start, refusal, accept, step, returned, written, answerBy, answer, buffer}
 use Rattle.methodology.specs.Text.{bytes, printed, refusedLine, rows, dayLines, fundLines, Expected, day, opened as Text·opened, sized as Text·sized, closed as Text·closed, followedBy}
 use Rattle.period.specs.declared.Outcome.{Outcome}

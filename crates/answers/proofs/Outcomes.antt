@@ -11,7 +11,8 @@ use Rattle.numbers.specs.Lists.{firstWhere}
 use Rattle.methodology.specs.declared.Refusal.{Refusal}
 use Rattle.methodology.specs.declared.Refusal.the-variants.{Clear, Row, RowAt}
 use Rattle.methodology.specs.declared.Status.{Status}
-use Rattle.methodology.specs.Account.{Opening, DayInput, accounts, nobody}
+use Rattle.methodology.specs.declared.Opening.{Opening}
+use Rattle.methodology.specs.Account.{DayInput, accounts, nobody}
 use Rattle.methodology.specs.Day.{total}
 use Rattle.methodology.specs.Refusals.{row_when_else_, row_at_when_else_, isOpen, badOpening, badLengths, badDayNumber, firstBadHeading, lastMissing, badAmount, openingRefusal, dayRefusal, closingRefusal}
 use Rattle.methodology.specs.Register.{accepted, answerBy}

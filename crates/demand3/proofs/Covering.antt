@@ -11,7 +11,8 @@ use Rattle.numbers.specs.Fractions.{Proper}
 use Rattle.numbers.proofs.Lists.{mem-range, range-at, range-length}
 use Rattle.numbers.proofs.Rows.{rows-at, rows-length}
 use Rattle.numbers.proofs.Sums.{Σ-eq}
-use Rattle.methodology.specs.Account.{Opening, members}
+use Rattle.methodology.specs.declared.Opening.{Opening}
+use Rattle.methodology.specs.Account.{members}
 use Rattle.methodology.specs.Day.{total}
 use Rattle.methodology.specs.Contribution.{KeptDay, highest, raw, funded, shortfall, allowance, three, contributions, totalFunded}
 use Rattle.methodology.specs.Register.{Call, Register, returned, written, accepted}

@@ -16,7 +16,8 @@ use Rattle.numbers.proofs.Rows.{rows-length}
 use Rattle.numbers.proofs.Sums.{Σ-bound}
 use Rattle.methodology.specs.declared.Refusal.{Refusal}
 use Rattle.methodology.specs.declared.Refusal.the-variants.{Clear, Row, RowAt}
-use Rattle.methodology.specs.Account.{Opening, DayInput, Account, members, accounts, nobody}
+use Rattle.methodology.specs.declared.Opening.{Opening}
+use Rattle.methodology.specs.Account.{DayInput, Account, members, accounts, nobody}
 use Rattle.methodology.specs.Member.{loss}
 use Rattle.methodology.specs.Day.{total, maxEul, scale, share, value, reserve, estimate, five, dailies}
 use Rattle.methodology.specs.Contribution.{charge, funded, unfunded, three}
@@ -26,8 +27,8 @@ use Rattle.methodology.proofs.Passed.{passed, either}
 use Rattle.quotient.specs.Ranges.{greatestTotal}
 use Rattle.quotient.proofs.Bounds.{share-le, cents-le, raw-le}
 use Rattle.validation.proofs.Headings.{bad-heading-le}
-use Rattle.validation.proofs.Opening.{opening-leaves}
-use Rattle.validation.proofs.Day.{lengths-leave, sized}
+use Rattle.validation.proofs.OpeningPasses.{opening-leaves}
+use Rattle.validation.proofs.DayPasses.{lengths-leave, sized}
 use Rattle.exposure.proofs.MaxTotal.{loss-le-total, max-le-total}
 use Rattle.period.specs.declared.Period.{Period}
 use Rattle.period.specs.declared.Outcome.{Outcome}

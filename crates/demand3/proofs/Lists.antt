@@ -9,7 +9,7 @@ use lib.ListN.{length}
 use borrow.Author.Tests.{eqb-false}
 use Rattle.methodology.specs.declared.Refusal.{Refusal}
 use Rattle.methodology.specs.declared.Refusal.the-variants.{Clear, Row, RowAt}
-use Rattle.methodology.specs.Account.{Opening}
+use Rattle.methodology.specs.declared.Opening.{Opening}
 use Rattle.methodology.specs.Refusals.{isOpen, closingRefusal}
 use Rattle.methodology.specs.Register.{Call, Register, refusal, accept, ifAccepted, step, returned, written, accepted, answer, buffer}
 use Rattle.methodology.proofs.Passed.{passed}

@@ -18,7 +18,8 @@ use Rattle.numbers.proofs.Lists.{_∈_, mem-at, at-any, mem-keep, any-false}
 use Rattle.numbers.proofs.Sums.{Σ-mono, Σ-bound, Σ-const, Σ-map, Σ-perm, Σ-take-le, Σ-or, Σ-classes, Σℤ-abs, greatest-le}
 use Rattle.numbers.proofs.Sorting.{descending-is}
 use Rattle.numbers.proofs.Rounding.{ceil-below}
-use Rattle.methodology.specs.Account.{Opening, Account, members, kindA, kindU, base, stress, decrease, eulOf, largestDecrease, ownEul}
+use Rattle.methodology.specs.declared.Opening.{Opening}
+use Rattle.methodology.specs.Account.{Account, members, kindA, kindU, base, stress, decrease, eulOf, largestDecrease, ownEul}
 use Rattle.methodology.specs.Member.{accountsOf, isHouse, isR, isAorU, isClient, houseEul, halfOfClients, twoLargestOfR, partB, partC, memberEul, memberOwn, loss}
 use Rattle.methodology.specs.Day.{total}
 use Rattle.methodology.specs.Refusals.{limit, badAmount, npvOutside}

@@ -7,13 +7,14 @@ use lib.IntN.{ℤ}
 use lib.ListN.{getD}
 use lib.Seq.{getD-take}
 use Rattle.numbers.proofs.Lists.{range-mem, table-at}
-use Rattle.methodology.specs.Account.{Opening, Account}
+use Rattle.methodology.specs.declared.Opening.{Opening}
+use Rattle.methodology.specs.Account.{Account}
 use Rattle.methodology.specs.Member.{loss}
 use Rattle.methodology.specs.Day.{total, maxEul}
 use Rattle.validation.specs.Slices.{Lent}
 use Rattle.exposure.specs.declared.day.Losses.{Losses}
 use Rattle.exposure.specs.Cut.{Owners}
-use Rattle.exposure.specs.Day.{LossesAre}
+use Rattle.exposure.specs.DayFigures.{LossesAre}
 use Rattle.exposure.proofs.MaxTotal.{loss-le-total, max-le-total}
 
 module _ (o : Opening) (accts : List Account) {holders kinds : List ℕ} {npvs : List ℤ} {margins extras : List ℕ} (lent : Lent (o .k) kinds npvs margins extras accts) (own : Owners holders accts) (r : Losses) (found : LossesAre (o .n) (o .k) holders kinds npvs margins extras r) where

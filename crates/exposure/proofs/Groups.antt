@@ -14,7 +14,8 @@ use Rattle.numbers.specs.Lists.{range, keep}
 use Rattle.numbers.specs.Sums.{Σℤ, greatest}
 use Rattle.numbers.proofs.Lists.{_∈_, upto-more, range-mem, mem-range, keep-snoc, keep-snoc-skip, mem-keep}
 use Rattle.numbers.proofs.Sums.{Σℤ-snoc, greatest-le, greatest-elem}
-use Rattle.methodology.specs.Account.{Opening, Account, members, scenarios}
+use Rattle.methodology.specs.declared.Opening.{Opening}
+use Rattle.methodology.specs.Account.{Account, members, scenarios}
 use Rattle.methodology.specs.Member.{memberUnder}
 use Rattle.methodology.specs.Day.{groupNumber, groupOf, groupSum, maxEul}
 

@@ -19,7 +19,7 @@ use Rattle.methodology.specs.Refusals.{limit}
 use Rattle.validation.specs.Slices.{Lent}
 use Rattle.exposure.specs.Scenario.{eulBy}
 use Rattle.exposure.specs.Cut.{Owners, Cut, between}
-use Rattle.exposure.specs.Day.{Sizable, EulIs, LossesAre}
+use Rattle.exposure.specs.DayFigures.{Sizable, EulIs, LossesAre}
 use Rattle.exposure.proofs.Members.{cut-start, own-part, loss-of}
 
 pub record LossPass (n k : ℕ) (holders kinds : List ℕ) (npvs : List ℤ) (margins extras each : List ℕ) (total at i : ℕ) : Type 0 where

@@ -9,7 +9,8 @@ use Rattle.numbers.specs.Lists.{keep}
 use Rattle.numbers.specs.Sums.{Σ}
 use Rattle.numbers.proofs.Lists.{_∈_}
 use Rattle.numbers.proofs.Sums.{Σ-elem, Σ-mono, Σ-keep-le, Σℤ-⁺, greatest-le}
-use Rattle.methodology.specs.Account.{Opening, Account, members, scenarios}
+use Rattle.methodology.specs.declared.Opening.{Opening}
+use Rattle.methodology.specs.Account.{Account, members, scenarios}
 use Rattle.methodology.specs.Member.{memberUnder, loss}
 use Rattle.methodology.specs.Day.{groupNumber, groupOf, groupSum, maxEul, total}
 use Rattle.exposure.proofs.Monotone.{loss-le}

@@ -27,7 +27,7 @@ use Rattle.validation.specs.Slices.{none, Lent, Within}
 use Rattle.exposure.specs.declared.member.Tally.{Tally}
 use Rattle.exposure.specs.Ranges.{Npvs, Owed}
 use Rattle.exposure.specs.Scenario.{fallUnder, eulBy}
-use Rattle.exposure.specs.Tally.{largestOfR, eulOver, Held, Small, Counted, Ended}
+use Rattle.exposure.specs.Tally.{largestOfR, eulOver, TallyOf, Small, TallyWith, Ended}
 use Rattle.exposure.specs.Member.{MemberEul}
 use Rattle.exposure.proofs.Decreases.{fall-le}
 use Rattle.exposure.proofs.Bounds.{eul-abs}
@@ -63,7 +63,7 @@ eul-by k j a h = by (eqb j 0)
 pub record Pass (k j : ℕ) (kinds : List ℕ) (npvs : List ℤ) (margins extras : List ℕ) (t : Tally) (i at : ℕ) : Type 0 where
   pub most : i ≤ length kinds
   pub place : at ≡ i * (k + 1)
-  pub held : Held t i
+  pub held : TallyOf t i
   pub sum : (accts : List Account) → Lent k kinds npvs margins extras accts → eulOver t (eulBy k j) (drop i accts) ≡ memberEul (eulBy k j) accts
 
 pub pass-none : (k j : ℕ) (kinds : List ℕ) (npvs : List ℤ) (margins extras : List ℕ) → Pass k j kinds npvs margins extras empty 0 0
@@ -118,7 +118,7 @@ module _ {k j : ℕ} {kinds : List ℕ} {npvs : List ℤ} {margins extras : List
           eul-by k j a (ap length n ∙ row-long)
           ∙ rw (n, l .amounts .margin-at i c, l .amounts .extra-at i c, ← q) (sym is)
 
-      pub pass-more : (r : Tally) → Counted t (getD kinds i 0) (toZ w64 (ofZ w64 e)) r → Pass k j kinds npvs margins extras r (i + 1) (at + (k + 1))
+      pub pass-more : (r : Tally) → TallyWith t (getD kinds i 0) (toZ w64 (ofZ w64 e)) r → Pass k j kinds npvs margins extras r (i + 1) (at + (k + 1))
       pass-more r d =
           record {
             most = omega arith;

@@ -15,7 +15,7 @@ use Rattle.methodology.specs.Account.{Account, eulUnder, ownEul}
 use Rattle.methodology.specs.Member.{accountsOf, memberEul, memberUnder, memberOwn, loss}
 use Rattle.validation.specs.Slices.{Rising, none}
 use Rattle.exposure.specs.Cut.{Owners, Below, Cut, between}
-use Rattle.exposure.specs.Day.{Sizable}
+use Rattle.exposure.specs.DayFigures.{Sizable}
 
 -- rising one by one is rising
 rising-le : {members : List ℕ} → Rising members → (i j : ℕ) → i ≤ j → j < length members → getD members i 0 ≤ getD members j 0

@@ -19,7 +19,7 @@ use Rattle.methodology.specs.Refusals.{limit}
 use Rattle.validation.specs.Slices.{Lent}
 use Rattle.exposure.specs.Scenario.{eulBy}
 use Rattle.exposure.specs.Cut.{between}
-use Rattle.exposure.specs.Day.{EulIs, RowIs}
+use Rattle.exposure.specs.DayFigures.{EulIs, RowIs}
 use Rattle.exposure.proofs.Tables.{is-row}
 
 pub record RowPass (k : ℕ) (kinds : List ℕ) (npvs : List ℤ) (margins extras : List ℕ) (a b : ℕ) (row : List ℤ) (j : ℕ) : Type 0 where

@@ -19,7 +19,7 @@ use Rattle.numbers.proofs.Lists.{mem-range, range-append, range-suc, is-table, 
 use Rattle.numbers.proofs.Filling.{Filled}
 use Rattle.numbers.proofs.Sums.{greatest-le, greatest-eq, greatest-append, greatest-map}
 use Rattle.methodology.specs.Account.{scenarios}
-use Rattle.exposure.specs.Rows.{rowOf, plus, Near, withRow}
+use Rattle.exposure.specs.GroupRows.{rowOf, plus, Near, withRow}
 
 -- numbers far from the ends of 64 bits: read back as they are, and two of them may be added
 pub near-back : {row : List ℤ} → Near row → (x : ℕ) → toZ w64 (ofZ w64 (getD row x (pos 0))) ≡ getD row x (pos 0)

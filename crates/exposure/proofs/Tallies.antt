@@ -23,7 +23,7 @@ use Rattle.methodology.specs.Account.{Account, kindH, kindR, kindA, kindU}
 use Rattle.methodology.specs.Member.{isHouse, isClient, isR, isAorU, houseEul, twoLargestOfR, partC}
 use Rattle.methodology.specs.Refusals.{limit}
 use Rattle.exposure.specs.declared.member.Tally.{Tally}
-use Rattle.exposure.specs.Tally.{largestOfR, eulOver, Held, Small, Counted, Ended}
+use Rattle.exposure.specs.Tally.{largestOfR, eulOver, TallyOf, Small, TallyWith, Ended}
 
 -- ranges
 pub house-fits : {t : Tally} → Small t → SFits w64 (t .house)
@@ -80,7 +80,7 @@ module _ (t : Tally) (e : ℤ) (s : Small t) (b : natAbs e ≤ 2 * limit) where
       rw (keep-cons isHouse a rest (rw q), keep-cons-skip isClient a rest (rw q), keep-cons-skip isR a rest (rw q), keep-cons-skip isAorU a rest (rw q))
       (cc (r, +ℤ-assoc (t .house) e (Σℤ (keep isHouse rest) eul)))
 
-  pub house : Counted t kindH e with-house
+  pub house : TallyWith t kindH e with-house
   house =
       record {
         held = λ n h. record { all = omega (arith, h .all, abs-add (t .house) e); apart = h .apart; order = h .order };
@@ -101,7 +101,7 @@ module _ (t : Tally) (e : ℤ) (s : Small t) (b : natAbs e ≤ 2 * limit) where
   two-or-three k h h₀ h₁ (yes p) = rw p
   two-or-three k h h₀ h₁ (no n) = let p : k ≡ kindU = omega arith in rw p
 
-  other : (k : ℕ) → k ≤ kindU → (k ≡ kindH → ⊥) → (k ≡ kindR → ⊥) → Counted t k e with-other
+  other : (k : ℕ) → k ≤ kindU → (k ≡ kindH → ⊥) → (k ≡ kindR → ⊥) → TallyWith t k e with-other
   other k h h₀ h₁ =
       record {
         held = λ n g. record { all = omega (arith, g .all, gain-le e b); apart = omega (arith, g .apart); order = g .order };
@@ -133,24 +133,24 @@ module _ (t : Tally) (e : ℤ) (s : Small t) (b : natAbs e ≤ 2 * limit) where
       rw (keep-cons-skip isHouse a rest (rw q), keep-cons isClient a rest (rw q), keep-cons isR a rest (rw q), keep-cons-skip isAorU a rest (rw q), r, two-largest (e ⁺) rs, same)
       (cc (add-assoc (t .clients) (e ⁺) (Σ (keep isClient rest) (λ x. eul x ⁺)), two-with (t .first) (t .second) (e ⁺) (greatest rs (λ x. x)) (Σ (take 2 (descending rs)) (λ x. x)) (s .order)))
 
-  client-R : Counted t kindR e (with-client (e ⁺))
+  client-R : TallyWith t kindR e (with-client (e ⁺))
   client-R =
       record {
         held = λ n g. record { all = omega (arith, g .all, gain-le e b); apart = omega (arith, g .apart); order = omega (arith, g .order) };
         over = over-R;
       }
 
-  client-other : (k : ℕ) → k ≤ kindU → (k ≡ kindH → ⊥) → (k ≡ kindR → ⊥) → Counted t k e (with-client 0)
+  client-other : (k : ℕ) → k ≤ kindU → (k ≡ kindH → ⊥) → (k ≡ kindR → ⊥) → TallyWith t k e (with-client 0)
   client-other k h h₀ h₁ =
       let m₁ : max (t .first) 0 ≡ t .first = omega arith in
       let m₂ : max (t .second) (min (t .first) 0) ≡ t .second = omega arith in
       let m₃ : e ⁺ - 0 ≡ e ⁺ = omega arith in
       rw (m₁, m₂, m₃) (other k h h₀ h₁)
 
-  pub client : (k : ℕ) → k ≤ kindU → (k ≡ kindH → ⊥) → (r : ℕ) → r ≡ cond (eqb k kindR) (e ⁺) 0 → Counted t k e (with-client r)
+  pub client : (k : ℕ) → k ≤ kindU → (k ≡ kindH → ⊥) → (r : ℕ) → r ≡ cond (eqb k kindR) (e ⁺) 0 → TallyWith t k e (with-client r)
   client k h h₀ r q = by (ℕ-discrete k kindR)
     where
-      by : Dec (k ≡ kindR) → Counted t k e (with-client r)
+      by : Dec (k ≡ kindR) → TallyWith t k e (with-client r)
       by (yes p) =
           let z : r ≡ e ⁺ = q ∙ rw p in
           rw (p, z) client-R
@@ -159,8 +159,8 @@ module _ (t : Tally) (e : ℤ) (s : Small t) (b : natAbs e ≤ 2 * limit) where
           rw z (client-other k h h₀ n)
 
 -- another name for the kind
-pub at-kind : {t r : Tally} {e : ℤ} {k m : ℕ} → k ≡ m → Counted t m e r → Counted t k e r
-at-kind {t} {r} {e} h c = subst (λ (n : ℕ). Counted t n e r) (sym h) c
+pub at-kind : {t r : Tally} {e : ℤ} {k m : ℕ} → k ≡ m → TallyWith t m e r → TallyWith t k e r
+at-kind {t} {r} {e} h c = subst (λ (n : ℕ). TallyWith t n e r) (sym h) c
 
 -- no account is left: the EUL as the program adds it up, and its bound
 module _ (t : Tally) where
@@ -170,7 +170,7 @@ module _ (t : Tally) where
   clients-part : (c f s o : ℕ) → (f + s + o ≤ c) → max ((c + 1) / 2) (f + s) + o ≤ c + (c + 1) / 2
   clients-part c f s o h = omega arith
 
-  bounded : (n : ℕ) → Held t n → natAbs (t .house +ℤ pos rest) ≤ 3 * limit * n
+  bounded : (n : ℕ) → TallyOf t n → natAbs (t .house +ℤ pos rest) ≤ 3 * limit * n
   bounded n h = omega (arith, h .all, clients-part (t .clients) (t .first) (t .second) (t .others) (h .apart), abs-add (t .house) (pos rest))
 
   pub total-fits : Small t → SFits w64 (t .house +ℤ pos rest)

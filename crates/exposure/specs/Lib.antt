@@ -2,6 +2,6 @@ pub mod Ranges
 pub mod Scenario
 pub mod Tally
 pub mod Member
-pub mod Rows
+pub mod GroupRows
 pub mod Cut
-pub mod Day
+pub mod DayFigures

@@ -27,18 +27,18 @@ eulOver t eul rest =
     +ℤ pos (t .others + partC eul rest)
 
 -- a tally of `count` accounts, each of which has an EUL within twice the limit
-pub record Held (t : Tally) (count : ℕ) : Type 0 where
+pub record TallyOf (t : Tally) (count : ℕ) : Type 0 where
   pub all : natAbs (t .house) + t .clients ≤ 2 * limit * count
   pub apart : t .first + t .second + t .others ≤ t .clients
   pub order : t .second ≤ t .first
 
 -- of no more accounts than a day has
 abbrev pub Small : Tally → Type 0
-Small t = Held t 256
+Small t = TallyOf t 256
 
 -- `r` is `t` with one account more, of the given kind and EUL: whatever follows, the member's EUL is the same
-pub record Counted (t : Tally) (kind : ℕ) (e : ℤ) (r : Tally) : Type 0 where
-  pub held : (count : ℕ) → Held t count → Held r (count + 1)
+pub record TallyWith (t : Tally) (kind : ℕ) (e : ℤ) (r : Tally) : Type 0 where
+  pub held : (count : ℕ) → TallyOf t count → TallyOf r (count + 1)
   pub over :
       (eul : Account → ℤ) (a : Account) (rest : List Account) → a .heading .kind ≡ kind → eul a ≡ e
       → eulOver r eul rest ≡ eulOver t eul (a ∷ rest)
@@ -46,4 +46,4 @@ pub record Counted (t : Tally) (kind : ℕ) (e : ℤ) (r : Tally) : Type 0 where
 -- `e` is the member's EUL where no account is left
 pub record Ended (t : Tally) (e : ℤ) : Type 0 where
   pub is : (eul : Account → ℤ) → e ≡ eulOver t eul []
-  pub bound : (count : ℕ) → Held t count → natAbs e ≤ 3 * limit * count
+  pub bound : (count : ℕ) → TallyOf t count → natAbs e ≤ 3 * limit * count

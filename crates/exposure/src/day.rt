@@ -4,12 +4,13 @@ use crate::member::member_eul;
 use crate::rows::add_row;
 use crate::rows::row_greatest;
 use crate::rows::rows_greatest;
+use methodology::Opening;
 use numbers::greater;
-ghost use Prim.Native.Nat.{ℕ, _+_, _≤_, _<_};
-ghost use lib.ListN.{length, getD};
+ghost use Prim.Native.Nat.{_+_, _≤_};
+ghost use lib.ListN.{length};
 ghost use Rattle.validation.specs.Slices.{Within, Rising};
 ghost use Rattle.exposure.specs.Cut.{Cut};
-ghost use Rattle.exposure.specs.Day.{Sizable, EulIs, RowIs, LossesAre, MaxIs};
+ghost use Rattle.exposure.specs.DayFigures.{Sizable, EulIs, RowIs, LossesAre, Grouped, MaxIs, FiguresAre};
 
 // The end of member m's accounts, which start at `at`.
 fn end_of(members: &[u64], at: usize, m: u64) -> usize
@@ -80,7 +81,7 @@ pub struct Losses {
     pub total: u64,
 }
 
-pub fn member_losses(
+fn member_losses(
     members: &[u64],
     kinds: &[u64],
     npvs: &[i64],
@@ -110,29 +111,54 @@ pub fn member_losses(
 
 // The greatest of 0, all members' EULs and all group sums, under all scenarios. "Every scenario is added up for itself, in an array of
 // group rows by scenario."
-pub fn max_eul(
-    groups: &[u64],
+fn max_eul(
+    opening: Opening,
     members: &[u64],
     kinds: &[u64],
     npvs: &[i64],
     margins: &[u64],
     extras: &[u64],
-    k: usize,
 ) -> u64
-    requires { ⌜ Sizable (length (now groups)) k (now members) (now kinds) (now npvs) (now margins) (now extras) × ((i : ℕ) → i < length (now groups) → getD (now groups) i 0 ≤ 32) ⌝ }
-    ensures { λ r. ⌜ MaxIs k (now (groups .entry)) (now (members .entry)) (now (kinds .entry)) (now (npvs .entry)) (now (margins .entry)) (now (extras .entry)) r ⌝ }
+    requires { ⌜ Sizable (opening .n) (opening .k) (now members) (now kinds) (now npvs) (now margins) (now extras) × Grouped opening ⌝ }
+    ensures { λ r. ⌜ MaxIs opening (now (members .entry)) (now (kinds .entry)) (now (npvs .entry)) (now (margins .entry)) (now (extras .entry)) r ⌝ }
 {
+    let n = opening.n as usize;
+    let k = opening.k as usize;
     let mut rows = [[0i64; 16]; 32];
     let mut top: u64 = 0;
     let mut at: usize = 0;
     let mut i: usize = 0;
-    while i < groups.len() {
+    while i < n {
         let end = end_of(members, at, i as u64 + 1);
         let row = row_between(kinds, npvs, margins, extras, k, at, end);
         top = greater(top, row_greatest(row));
-        add_row(&mut rows, groups[i], row);
+        add_row(&mut rows, opening.groups[i], row);
         at = end;
         i += 1;
     }
     greater(top, rows_greatest(rows))
+}
+
+// A day's own figures, worked from its accounts and what the opening brought alone: losses, T, and `top`, its Max EUL.
+pub struct Figures {
+    pub losses: Losses,
+    pub top: u64,
+}
+
+pub fn day_figures(
+    opening: Opening,
+    members: &[u64],
+    kinds: &[u64],
+    npvs: &[i64],
+    margins: &[u64],
+    extras: &[u64],
+) -> Figures
+    requires { ⌜ Sizable (opening .n) (opening .k) (now members) (now kinds) (now npvs) (now margins) (now extras) × Grouped opening ⌝ }
+    ensures { λ r. ⌜ FiguresAre opening (now (members .entry)) (now (kinds .entry)) (now (npvs .entry)) (now (margins .entry)) (now (extras .entry)) r ⌝ }
+{
+    let n = opening.n as usize;
+    let k = opening.k as usize;
+    let losses = member_losses(members, kinds, npvs, margins, extras, n, k);
+    let top = max_eul(opening, members, kinds, npvs, margins, extras);
+    Figures { losses, top }
 }

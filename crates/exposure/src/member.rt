@@ -14,7 +14,7 @@ ghost use Rattle.numbers.specs.Signed.{_⁺};
 ghost use Rattle.methodology.specs.Account.{kindR, kindU};
 ghost use Rattle.methodology.specs.Refusals.{limit};
 ghost use Rattle.validation.specs.Slices.{Within};
-ghost use Rattle.exposure.specs.Tally.{Small, Counted, Ended};
+ghost use Rattle.exposure.specs.Tally.{Small, TallyWith, Ended};
 ghost use Rattle.exposure.specs.Member.{MemberEul};
 
 // An EUL, or 0 where that is negative.
@@ -53,7 +53,7 @@ impl Tally {
     // the few operations that it would save.
     fn with(self, kind: u64, eul: i64) -> Tally
         requires { ⌜ Small self × (kind ≤ kindU) × (natAbs eul ≤ 2 * limit) ⌝ }
-        ensures { λ r. ⌜ Counted self kind eul r ⌝ }
+        ensures { λ r. ⌜ TallyWith self kind eul r ⌝ }
     {
         let house = self.house;
         let clients = self.clients;

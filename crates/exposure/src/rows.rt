@@ -6,7 +6,7 @@ ghost use Prim.Native.Nat.{_≤_};
 ghost use lib.ListN.{length};
 ghost use Rattle.numbers.specs.Signed.{_⁺};
 ghost use Rattle.numbers.specs.Sums.{greatest};
-ghost use Rattle.exposure.specs.Rows.{Near, Shape, Summable, plus, withRow};
+ghost use Rattle.exposure.specs.GroupRows.{Near, Shape, Summable, plus, withRow};
 
 // The sum of two rows, scenario by scenario.
 fn added(a: [i64; 16], b: [i64; 16]) -> [i64; 16]

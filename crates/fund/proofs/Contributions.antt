@@ -6,7 +6,8 @@ use lib.ListN.{length, take}
 use Rattle.numbers.specs.Sums.{Σ}
 use Rattle.numbers.proofs.Rows.{flatMap-map}
 use Rattle.numbers.proofs.Sums.{Σ-map}
-use Rattle.methodology.specs.Account.{Opening, members}
+use Rattle.methodology.specs.declared.Opening.{Opening}
+use Rattle.methodology.specs.Account.{members}
 use Rattle.methodology.specs.Contribution.{KeptDay, highest, sumOfShares, charge, raw, funded, three, contributions, totalFunded}
 
 module _ (o : Opening) (days : List KeptDay) (sums : List ℕ) (h : take (o .n) sums ≡ map (sumOfShares o days) (members (o .n))) where

@@ -12,7 +12,8 @@ use Rattle.numbers.proofs.Lists.{_∈_, range-length, every-mem}
 use Rattle.numbers.proofs.Sums.{Σ-add, Σ-eq, Σ-bound, Σ-least, Σ-swap}
 use Rattle.numbers.proofs.Fractions.{Σᶠ-proper}
 use Rattle.numbers.proofs.RoundedUp.{Σᶠ-ceil-above, Σᶠ-ceil-below, parts-above, parts-below}
-use Rattle.methodology.specs.Account.{Opening, members}
+use Rattle.methodology.specs.declared.Opening.{Opening}
+use Rattle.methodology.specs.Account.{members}
 use Rattle.methodology.specs.Member.{loss}
 use Rattle.methodology.specs.Day.{total, scale, share}
 use Rattle.methodology.specs.Contribution.{KeptDay, highest, sumOfShares, charge, raw, funded, exactCharge, shortfall, allowance}

@@ -4,7 +4,8 @@ use mathlib.Core.List.{List, map, flatMap}
 use Prim.Native.Nat.{ℕ}
 use lib.ListN.{take}
 use Rattle.numbers.proofs.Rows.{flatMap-map}
-use Rattle.methodology.specs.Account.{Opening, Account, members}
+use Rattle.methodology.specs.declared.Opening.{Opening}
+use Rattle.methodology.specs.Account.{Account, members}
 use Rattle.methodology.specs.Member.{loss}
 use Rattle.methodology.specs.Day.{total, maxEul, five, dailies}
 

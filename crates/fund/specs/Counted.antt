@@ -2,7 +2,7 @@
 use mathlib.Core.List.{List}
 use Prim.Native.Nat.{_<_}
 use Rattle.numbers.specs.Lists.{Every}
-use Rattle.methodology.specs.Account.{Opening}
+use Rattle.methodology.specs.declared.Opening.{Opening}
 use Rattle.methodology.specs.Day.{total}
 use Rattle.methodology.specs.Contribution.{KeptDay}
 

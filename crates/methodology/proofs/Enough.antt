@@ -12,11 +12,12 @@ use borrow.Author.Tests.{ltb-false, eqb-false}
 use Rattle.numbers.proofs.Tests.{neither}
 use Rattle.methodology.specs.declared.Refusal.{Refusal}
 use Rattle.methodology.specs.declared.Refusal.the-variants.{Clear, Row, RowAt}
-use Rattle.methodology.specs.Account.{Opening, DayInput}
-use Rattle.methodology.specs.Refusals.{isOpen, nOutside, kOutside, countOutside, badLengths, badDayNumber, dayRefusal}
+use Rattle.methodology.specs.declared.Opening.{Opening}
+use Rattle.methodology.specs.Account.{DayInput}
+use Rattle.methodology.specs.Refusals.{isOpen, nOutside, kOutside, countOutside, badInput, badOutput, badDayNumber, accountRows, dayRows, dayRefusal}
 use Rattle.methodology.specs.Register.{Call, Register, start, lastNumber, refusal, accept, step}
 use Rattle.methodology.specs.Text.{bytes, same, AccountLine, Expected, period, member, day, account, afterEnd, Read, ends, goesOn, readPeriod, opened, readMember, readDay, sized, withAccount, readAccount, readLine}
-use Rattle.methodology.proofs.Passed.{inside, passed, either, by-test, number-rises}
+use Rattle.methodology.proofs.Passed.{inside, passed, passed-rows, either, by-test, number-rises}
 
 -- the most bytes of a good line with its LF, and of a day's lines, which are its day line and its acct lines
 abbrev pub aLine : ℕ
@@ -80,13 +81,15 @@ after-day m l g i none h k = tt
 after-day m l g i (some ns) h k = by-test (EnoughAfter m) (countOutside (getD ns 1 0)) _ _ (λ e. tt) (λ e. omega arith)
 
 -- an accepted day's number is above the last, and at most 31
-pub rises : (g : Register) (d : DayInput) (room : ℕ) → refusal g (Call.day d room) ≡ Clear → (lastNumber (g .days) < d .number) × (d .number ≤ 31)
-unfolding refusal dayRefusal
+pub rises : (g : Register) (d : DayInput) (room : ℕ) → refusal g (Call.day d room) ≡ Clear → (lastNumber (g .days) < d .terms .number) × (d .terms .number ≤ 31)
+unfolding refusal dayRefusal dayRows
 rises g d room e =
     let (_, r₁) = passed 2 (not (isOpen (g .status))) _ e in
-    let (_, r₂) = passed 4 (badLengths (g .held) d room) _ r₁ in
-    let (e3, _) = passed 3 (badDayNumber (lastNumber (g .days)) (d .number)) _ r₂ in
-    let (high, above) = number-rises (lastNumber (g .days)) (d .number) e3 in
+    let (_, r₂) = passed 4 (badOutput (g .held) room) _ r₁ in
+    let (r₃, _) = passed-rows (dayRows (g .held) (lastNumber (g .days)) d) _ r₂ in
+    let (_, r₄) = passed 4 (badInput (g .held) d) _ r₃ in
+    let (e3, _) = passed 3 (badDayNumber (lastNumber (g .days)) (d .terms .number)) (accountRows (g .held) d) r₄ in
+    let (high, above) = number-rises (lastNumber (g .days)) (d .terms .number) e3 in
     (above, high)
 
 after-sized : (m : ℕ) (x : Refusal) (g : Register) (d : DayInput) (i : ℕ) → refusal g (Call.day d (5 * g .held .n)) ≡ x

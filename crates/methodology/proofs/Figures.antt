@@ -10,12 +10,13 @@ use lib.IntN.{ℤ, pos}
 use lib.ListN.{length, getD}
 use Rattle.numbers.specs.Fractions.{Fraction, _over_, Proper, _≼_, _≺_}
 use Rattle.numbers.specs.Lists.{range, Every, firstWhere}
-use Rattle.methodology.specs.Account.{Opening, DayInput, members, accounts, nobody, headingAt}
+use Rattle.methodology.specs.declared.Opening.{Opening}
+use Rattle.methodology.specs.Account.{DayInput, members, accounts, nobody, headingAt}
 use Rattle.methodology.specs.Member.{memberUnder, memberOwn}
 use Rattle.methodology.specs.Day.{total, maxEul, dailies}
 use Rattle.methodology.specs.Contribution.{KeptDay, exactCharge, allowance, shortfall}
 use Rattle.methodology.specs.Register.{Register, start, opening, day, closing, step, buffer}
-use Rattle.methodology.proofs.Samples.{computed, H, R, A, U, Line, acct, minus, losing, houses, clients, dayOf}
+use Rattle.methodology.proofs.Samples.{computed, H, R, A, U, Line, acct, minus, losing, houses, clients, dayOf, opening-of}
 
 -- a case: the figures that the definitions give, and those that document 01 has
 pub record Case : Type 0 where
@@ -33,7 +34,7 @@ got is-signed due = record { got = got; due = due }
 
 -- a period of one scenario, with a group number for each member
 abbrev groups : List ℕ → Opening
-groups gs = record { n = length gs; k = 1; groups = gs }
+groups gs = opening-of (length gs) 1 gs
 
 -- the six members of 001, by Position Account STV and Margin Balance, the first one's margin as given
 abbrev illustrative : (margin : ℕ) → DayInput
@@ -107,7 +108,7 @@ cases =
     -- 7: Affiliates 100 and 80, a third member 150: Max EUL 180
     ∷ max-of (groups (1 ∷ 1 ∷ 0 ∷ [])) (houses 1 (pos 100 ∷ pos 80 ∷ pos 150 ∷ [])) is (180 ∷ [])
     -- 8: Affiliates, one losing 100 under 1 only, the other 80 under 2 only, no margins: Max EUL 100
-    ∷ max-of (record { n = 2; k = 2; groups = 1 ∷ 1 ∷ [] })
+    ∷ max-of (opening-of 2 2 (1 ∷ 1 ∷ []))
     (acct 1 0 H (pos 100) 0 0 (pos 0 ∷ pos 100 ∷ []) ∷ acct 2 0 H (pos 80) 0 0 (pos 80 ∷ pos 0 ∷ []) ∷ [])
     is (100 ∷ [])
     -- 9: One day, three losses of 200,000,000: raw 73,333,334 each

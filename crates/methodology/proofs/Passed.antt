@@ -9,7 +9,7 @@ use borrow.Author.Tests.{ltb-false, leb-false}
 use Rattle.numbers.proofs.Tests.{neither}
 use Rattle.methodology.specs.declared.Refusal.{Refusal}
 use Rattle.methodology.specs.declared.Refusal.the-variants.{Clear, Row, RowAt}
-use Rattle.methodology.specs.Refusals.{row_when_else_, row_at_when_else_, outside, badDayNumber}
+use Rattle.methodology.specs.Refusals.{row_when_else_, row_at_when_else_, rows-of_else_, outside, badDayNumber}
 use Rattle.methodology.specs.Register.{ifAccepted}
 
 pub passed : (number : ℕ) (b : Bool) (rest : Refusal) → row number when b else rest ≡ Clear → (b ≡ false) × (rest ≡ Clear)
@@ -21,6 +21,12 @@ pub passed-at : (number index : ℕ) (b : Bool) (rest : Refusal) → row number 
 unfolding row_at_when_else_
 passed-at number index true rest e = let z : _≡_ {A = ℕ} 0 1 = cc in absurd (omega arith)
 passed-at number index false rest e = (refl, e)
+
+pub passed-rows : (rows rest : Refusal) → rows-of rows else rest ≡ Clear → (rows ≡ Clear) × (rest ≡ Clear)
+unfolding rows-of_else_
+passed-rows Clear rest e = (refl, e)
+passed-rows (Row number) rest e = let z : _≡_ {A = ℕ} 0 1 = cc in absurd (omega arith)
+passed-rows (RowAt number index) rest e = let z : _≡_ {A = ℕ} 0 1 = cc in absurd (omega arith)
 
 -- what holds of both ways holds of the one that is taken
 pub either : {A : Type 0} (P : A → Type 0) (x : Refusal) (a b : A) → (x ≡ Clear → P a) → P b → P (ifAccepted x a b)

@@ -9,6 +9,7 @@ use Rattle.numbers.specs.Sums.{Σ, Σℤ, greatest}
 use Rattle.numbers.specs.Fractions.{Σᶠ}
 use Rattle.numbers.specs.Rounding.{ceilDiv, roundDiv}
 use Rattle.methodology.specs.declared.Heading.{Heading}
+use Rattle.methodology.specs.declared.Opening.{Opening}
 use Rattle.methodology.specs.Account.{DayInput, accountAt, accounts, decrease, eulOf, eulUnder, largestDecrease, ownEul}
 use Rattle.methodology.specs.Member.{accountsOf, houseEul, halfOfClients, twoLargestOfR, partB, partC, memberEul, memberUnder, memberOwn, loss}
 use Rattle.methodology.specs.Day.{total, groupOf, groupSum, maxEul, share, value, reserve, estimate, five, dailies}
@@ -16,14 +17,16 @@ use Rattle.methodology.specs.Contribution.{highest, sumOfShares, charge,
 use Rattle.methodology.specs.Refusals.{
   row_when_else_,
   row_at_when_else_,
+  rows-of_else_,
   badOpening,
   openingRefusal,
   badDayNumber,
-  badLengths,
   badHeading,
   firstBadHeading,
   lastMissing,
   badAmount,
+  accountRows,
+  dayRows,
   dayRefusal,
   closingRefusal,
 }
@@ -31,7 +34,7 @@ use Rattle.methodology.specs.Register.{Register, Call, opening, day, clo
 
 -- Who unfolds this unfolds every definition on its line, so that the examples compute.
 unfoldable pub computed : Unit {0}
-unfolding flatMap range keep any firstWhere insert descending Σ Σℤ greatest Σᶠ ceilDiv roundDiv accountAt accounts decrease eulOf eulUnder largestDecrease ownEul accountsOf houseEul halfOfClients twoLargestOfR partB partC memberEul memberUnder memberOwn loss total groupOf groupSum maxEul share value reserve estimate five dailies highest sumOfShares charge raw funded unfunded exactCharge shortfall allowance three contributions totalFunded row_when_else_ row_at_when_else_ badOpening openingRefusal badDayNumber badLengths badHeading firstBadHeading lastMissing badAmount dayRefusal closingRefusal refusal accept step returned written answer buffer
+unfolding flatMap range keep any firstWhere insert descending Σ Σℤ greatest Σᶠ ceilDiv roundDiv accountAt accounts decrease eulOf eulUnder largestDecrease ownEul accountsOf houseEul halfOfClients twoLargestOfR partB partC memberEul memberUnder memberOwn loss total groupOf groupSum maxEul share value reserve estimate five dailies highest sumOfShares charge raw funded unfunded exactCharge shortfall allowance three contributions totalFunded row_when_else_ row_at_when_else_ rows-of_else_ badOpening openingRefusal badDayNumber badHeading firstBadHeading lastMissing badAmount accountRows dayRows dayRefusal closingRefusal refusal accept step returned written answer buffer
 computed = tt
 
 -- "Kinds: H (0) house; R (1) [..]; A (2) [..]; U (3) [..]": document 01's numbers, and not the definitions', which the examples hold.
@@ -87,16 +90,19 @@ clients first (c ∷ cs) = losing 1 first (c .0) (c .1) ∷ clients (suc first) 
 abbrev pub dayOf : (number : ℕ) → List Line → DayInput
 dayOf number lines =
     record {
-      number = number;
+      terms = record { number = number };
       headings = map (λ l. l .heading) lines;
       npvs = flatMap (λ l. l .base ∷ l .stresses) lines;
       margins = map (λ l. l .margin) lines;
       extras = map (λ l. l .extra) lines;
     }
 
--- an opening
+-- what an opening brings, and the call
+abbrev pub opening-of : (n k : ℕ) → (groups : List ℕ) → Opening
+opening-of n k groups = record { n = n; k = k; groups = groups }
+
 abbrev pub brings : (n k : ℕ) → (groups : List ℕ) → Call
-brings n k groups = opening (record { n = n; k = k; groups = groups })
+brings n k groups = opening (opening-of n k groups)
 
 -- a call with what it must answer and leave in its buffer
 pub record Exchange : Type 0 where

@@ -12,7 +12,8 @@ use Rattle.numbers.proofs.Lists.{range-length}
 use Rattle.numbers.proofs.Tests.{neither}
 use Rattle.methodology.specs.declared.Refusal.{Refusal}
 use Rattle.methodology.specs.declared.Refusal.the-variants.{Clear, Row, RowAt}
-use Rattle.methodology.specs.Account.{Opening, DayInput, members}
+use Rattle.methodology.specs.declared.Opening.{Opening}
+use Rattle.methodology.specs.Account.{DayInput, members}
 use Rattle.methodology.specs.Refusals.{nOutside, kOutside, countOutside}
 use Rattle.methodology.specs.Register.{Call, Register, start, lastNumber, refusal, accept, step, returned}
 use Rattle.methodology.specs.Text.{LF, tab, bytes, same, split, badBytes, AccountLine, digits, decimal, printed, refusedLine, rows, dayLines, fundLines, Expected, period, member, day, account, afterEnd, Read, ends, goesOn, readPeriod, opened, readMember, readDay, sized, withAccount, readAccount, readLine, closed, atEnd, followedBy, reportFrom, reportOf}
@@ -67,7 +68,7 @@ lines-short head numbers word width n out h k few =
 day-short : (g : Register) (d : DayInput) (room : ℕ) → g .held .n ≤ 32 → length (dayLines g d room) ≤ aDay
 unfolding dayLines returned bytes
 day-short g d room few =
-    lines-short (bytes "day") (d .number ∷ returned g (Call.day d room)) (bytes "daily") 5 (g .held .n) _ (omega arith) (omega arith) few
+    lines-short (bytes "day") (d .terms .number ∷ returned g (Call.day d room)) (bytes "daily") 5 (g .held .n) _ (omega arith) (omega arith) few
 
 fund-short : (g : Register) (room : ℕ) → g .held .n ≤ 32 → length (fundLines g room) ≤ aDay
 unfolding fundLines returned bytes

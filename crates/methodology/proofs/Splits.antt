@@ -12,7 +12,8 @@ use lib.Seq.{take-all}
 use borrow.Author.Tests.{eqb-true, lt-ltb, le-ltb, ltb-true, ltb-false}
 use Rattle.numbers.specs.Lists.{any, firstWhere}
 use Rattle.numbers.proofs.Tests.{both}
-use Rattle.methodology.specs.Account.{Opening, DayInput}
+use Rattle.methodology.specs.declared.Opening.{Opening}
+use Rattle.methodology.specs.Account.{DayInput}
 use Rattle.methodology.specs.Register.{Call, Register, refusal}
 use Rattle.methodology.specs.Text.{LF, bytes, same, onto, split, badBytes, numbersAfter, accountOf, refusedLine, Expected, period, member, day, account, afterEnd, Read, bad, readPeriod, readMember, readDay, readAccount, readLine, closed, atEnd, followedBy, reportFrom}
 use Rattle.methodology.specs.Lines.{indexOf, has, before, after, isEnd, lineRead}

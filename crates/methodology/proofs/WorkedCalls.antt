@@ -8,14 +8,14 @@ use Prim.Native.Nat.{ℕ, suc, _*_}
 use lib.IntN.{ℤ, pos}
 use lib.ListN.{length, drop, replicate}
 use Rattle.methodology.specs.declared.Status.the-variants.{Fresh, Open, Closed}
-use Rattle.methodology.specs.Account.{Opening}
+use Rattle.methodology.specs.declared.Opening.{Opening}
 use Rattle.methodology.specs.Register.{Call, opening, day, closing, Register, start, step, accepted, refused, refusedAt}
-use Rattle.methodology.proofs.Samples.{computed, H, R, A, U, Line, acct, minus, losing, houses, clients, dayOf, brings, Exchange, _gets_, _gets_writing_, played}
+use Rattle.methodology.proofs.Samples.{computed, H, R, A, U, Line, acct, minus, losing, houses, clients, dayOf, opening-of, brings, Exchange, _gets_, _gets_writing_, played}
 
 -- the printed month
 abbrev printed : List Exchange
 printed =
-    opening (record { n = 2; k = 1; groups = 0 ∷ 0 ∷ [] }) gets accepted []
+    brings 2 1 (0 ∷ 0 ∷ []) gets accepted []
     ∷ day (dayOf 3 (acct 1 0 H (pos 390000000) 0 0 (pos 0 ∷ []) ∷ acct 2 0 H (pos 10000000) 0 0 (pos 0 ∷ []) ∷ [])) 10
     gets accepted (400000000 ∷ 390000000 ∷ [])
     writing (390000000 ∷ 975000000000 ∷ 38025000000 ∷ 41827500000 ∷ 83655000000
@@ -200,7 +200,7 @@ on number lines = day (dayOf number lines) 15
 abbrev lending : (number : ℕ) → (List ℤ → List ℤ) → (margins extras : List ℕ → List ℕ) → Call
 lending number f g h =
     let d = dayOf number (house 1 ∷ house 2 ∷ house 3 ∷ []) in
-    day (record { number = d .number; headings = d .headings; npvs = f (d .npvs); margins = g (d .margins); extras = h (d .extras) }) 15
+    day (record { terms = d .terms; headings = d .headings; npvs = f (d .npvs); margins = g (d .margins); extras = h (d .extras) }) 15
 
 -- a good day with an output of this length
 abbrev lent-room : (number room : ℕ) → Call
@@ -210,7 +210,7 @@ lent-room number room = day (dayOf number (house 1 ∷ house 2 ∷ house 3 ∷ [
 abbrev heading : (lines : List Line) → Call
 heading lines =
     let d = dayOf 6 (house 1 ∷ house 2 ∷ house 3 ∷ []) in
-    day (record { number = d .number; headings = map (λ l. l .heading) lines; npvs = d .npvs; margins = d .margins; extras = d .extras }) 15
+    day (record { terms = d .terms; headings = map (λ l. l .heading) lines; npvs = d .npvs; margins = d .margins; extras = d .extras }) 15
 
 abbrev as-it-is : {X : Type 0} → List X → List X
 as-it-is l = l
@@ -526,7 +526,7 @@ worked-calls = refl
 -- What the register holds at the start and after an opening, a day and a closing. No answer tells fresh from closed, or has to do with what
 -- is held before the first opening; document 01 says it all the same.
 abbrev held-two : Opening
-held-two = record { n = 2; k = 1; groups = 0 ∷ 0 ∷ [] }
+held-two = opening-of 2 1 (0 ∷ 0 ∷ [])
 
 abbrev after-opening : Register
 after-opening = step start (opening held-two)
@@ -535,7 +535,7 @@ abbrev after-day : Register
 after-day = step after-opening (losses 5 (400000000 ∷ 200000000 ∷ []))
 
 pub registers :
-    (start ≡ record { status = Fresh; held = record { n = 0; k = 0; groups = [] }; days = [] })
+    (start ≡ record { status = Fresh; held = opening-of 0 0 []; days = [] })
     × (after-opening ≡ record { status = Open; held = held-two; days = [] })
     × (map (λ d. d .number) (after-day .days) ≡ 5 ∷ [])
     × (step after-day (closing 6) ≡ record { status = Closed; held = held-two; days = after-day .days })

@@ -449,7 +449,7 @@ worked-texts = refl
 
 -- The 65,536 bytes of a day: where 65,514 are used, a line of 21 bytes and its LF fills them, and one of 22 is bad; a day starts with none.
 abbrev begun : DayInput
-begun = record { number = 3; headings = []; npvs = []; margins = []; extras = [] }
+begun = record { terms = record { number = 3 }; headings = []; npvs = []; margins = []; extras = [] }
 
 pub bytes-filled :
     readLine (account start begun 4 2 65514) 5 (bytes "acct\t1\t0\tH\t100000\t0\t0")

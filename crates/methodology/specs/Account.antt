@@ -1,20 +1,26 @@
 -- Document 01, "From an account to a member", first half: a period's members and scenarios, a day's accounts, and an account's EUL;
 -- 001, 6.1.1(2) to (4).
-use mathlib.Core.List.{List, map}
+use mathlib.Core.List.{List, [], map}
 use Prim.Native.Nat.{ℕ, _+_, _*_}
 use lib.IntN.{ℤ, pos, _+ℤ_, _-ℤ_}
 use lib.ListN.{length, getD, take, drop}
 use Rattle.numbers.specs.Signed.{_⁺}
 use Rattle.numbers.specs.Lists.{range}
 use Rattle.numbers.specs.Sums.{greatest}
+use Rattle.methodology.specs.declared.Opening.{Opening}
+use Rattle.methodology.specs.declared.DayTerms.{DayTerms}
 use Rattle.methodology.specs.declared.Heading.{Heading}
 
--- What an opening brings. "A period has n members, numbered 1 to n (1 to 32), and k stress scenarios (1 to 16). Each member has a group
--- number, 0 to 32."
-pub record Opening : Type 0 where
-  pub n : ℕ
-  pub k : ℕ
-  pub groups : List ℕ
+-- What an opening brings, `Opening` in src/lib.rt: "A period has n members, numbered 1 to n (1 to 32), and k stress scenarios (1 to 16). Each
+-- member has a group number, 0 to 32."
+
+-- the same opening, with other groups
+abbrev pub withGroups : Opening → (groups : List ℕ) → Opening
+withGroups o groups = record { n = o .n; k = o .k; groups = groups }
+
+-- none: what is held before the first
+abbrev pub noOpening : Opening
+noOpening = record { n = 0; k = 0; groups = [] }
 
 -- the members, 1 to n
 abbrev pub members : (n : ℕ) → List ℕ
@@ -24,15 +30,19 @@ members n = range 1 n
 abbrev pub scenarios : (k : ℕ) → List ℕ
 scenarios k = range 1 k
 
--- What a day brings: its number, and in four lent slices its accounts. "No field may be missing." "The headings of a day's accounts (member, account number, kind)
--- come as a lent slice of records [..]; the NPVs come as one lent slice of signed 64-bit numbers [..]; margins and extras come in two
--- further slices, one number an account."
+-- What a day brings: its terms, which are its number, and in four lent slices its accounts. "No field may be missing." "The headings of a
+-- day's accounts (member, account number, kind) come as a lent slice of records [..]; the NPVs come as one lent slice of signed 64-bit
+-- numbers [..]; margins and extras come in two further slices, one number an account."
 pub record DayInput : Type 0 where
-  pub number : ℕ
+  pub terms : DayTerms
   pub headings : List Heading
   pub npvs : List ℤ
   pub margins : List ℕ
   pub extras : List ℕ
+
+-- a day before its first account
+abbrev pub noAccounts : DayTerms → DayInput
+noAccounts terms = record { terms = terms; headings = []; npvs = []; margins = []; extras = [] }
 
 -- An account. "A day's account has a member, an account number, a kind, a base NPV, k stress NPVs, a margin and an extra."
 pub record Account : Type 0 where

@@ -5,7 +5,8 @@ use lib.ListN.{length}
 use Rattle.numbers.specs.Sums.{Σ, greatest}
 use Rattle.numbers.specs.Fractions.{Fraction, _over_, whole, _⊕_, _⊗_, Σᶠ}
 use Rattle.numbers.specs.Rounding.{ceilDiv}
-use Rattle.methodology.specs.Account.{Opening, Account, members}
+use Rattle.methodology.specs.declared.Opening.{Opening}
+use Rattle.methodology.specs.Account.{Account, members}
 use Rattle.methodology.specs.Member.{loss}
 use Rattle.methodology.specs.Day.{total, maxEul, scale, share}
 

@@ -9,7 +9,8 @@ use Rattle.numbers.specs.Signed.{_⁺}
 use Rattle.numbers.specs.Lists.{keep}
 use Rattle.numbers.specs.Sums.{Σ, Σℤ, greatest}
 use Rattle.numbers.specs.Rounding.{ceilDiv, roundDiv}
-use Rattle.methodology.specs.Account.{Opening, Account, members, scenarios}
+use Rattle.methodology.specs.declared.Opening.{Opening}
+use Rattle.methodology.specs.Account.{Account, members, scenarios}
 use Rattle.methodology.specs.Member.{memberUnder, loss}
 
 -- "T is the sum of e over all members."

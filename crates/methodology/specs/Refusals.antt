@@ -13,11 +13,13 @@ use Rattle.methodology.specs.declared.Status.{Status}
 use Rattle.methodology.specs.declared.Status.the-variants.{Fresh, Open, Closed}
 use Rattle.methodology.specs.declared.Refusal.{Refusal}
 use Rattle.methodology.specs.declared.Refusal.the-variants.{Clear, Row, RowAt}
-use Rattle.methodology.specs.Account.{Opening, DayInput, Account, accounts, nobody, kindH, kindR, kindA, kindU}
+use Rattle.methodology.specs.declared.Opening.{Opening}
+use Rattle.methodology.specs.Account.{DayInput, Account, accounts, nobody, kindH, kindR, kindA, kindU}
 use Rattle.methodology.specs.Day.{total}
 
 infixr 20 row_when_else_
 infixr 20 row_at_when_else_
+infixr 20 rows-of_else_
 -- a row of the table: its number, its condition, and the rows after it
 unfoldable pub row_when_else_ : (number : ℕ) → (condition : Bool) → (rest : Refusal) → Refusal
 row number when condition else rest = cond condition (Row number) rest
@@ -25,6 +27,12 @@ row number when condition else rest = cond condition (Row number) rest
 -- a row that has an index
 unfoldable pub row_at_when_else_ : (number index : ℕ) → (condition : Bool) → (rest : Refusal) → Refusal
 row number at index when condition else rest = cond condition (RowAt number index) rest
+
+-- rows that have a name of their own, and the rows after them
+unfoldable pub rows-of_else_ : (rows rest : Refusal) → Refusal
+rows-of Clear else rest = rest
+rows-of Row number else rest = Row number
+rows-of RowAt number index else rest = RowAt number index
 
 abbrev pub isOpen : Status → Bool
 isOpen Fresh = false
@@ -79,10 +87,6 @@ badInput o d =
 -- Row 4 of what it is lent: "output not 5n (day) [..] long"
 abbrev pub badOutput : Opening → (room : ℕ) → Bool
 badOutput o room = not (eqb room (5 * o .n))
-
--- Row 4, both
-unfoldable pub badLengths : Opening → DayInput → (room : ℕ) → Bool
-badLengths o d room = badInput o d || badOutput o room
 
 -- Row 5, condition by condition. `prev` is the heading before h, and `nobody` before the first.
 
@@ -145,21 +149,31 @@ npvOutside z = ltZ z (negℤ (pos limit)) || ltZ (pos limit) z
 unfoldable pub badAmount : Account → Bool
 badAmount a = any npvOutside (a .npvs) || outside 0 limit (a .margin) || ltb (a .margin) (a .extra)
 
--- "day 2, 4, 3, 5, 6, 7". `last` is the last accepted day number. Row 2: "day [..] while not open". Row 5: the first bad account comes
--- first, and "Index = account count if the last members are missing" and none is bad. "Row 5 is tested over all accounts before row 6."
--- Row 7: "T is 0".
-unfoldable pub dayRefusal : Status → Opening → (last : ℕ) → DayInput → (room : ℕ) → Refusal
-dayRefusal s o last d room =
+-- Rows 5 and 6, of a day's accounts. Row 5: the first bad account comes first, and "Index = account count if the last members are missing"
+-- and none is bad. "Row 5 is tested over all accounts before row 6."
+unfoldable pub accountRows : Opening → DayInput → Refusal
+accountRows o d =
     let count = length (d .headings) in
-    let accts = accounts (o .k) d in
     let bad5 = firstBadHeading (o .n) nobody (d .headings) in
-    let bad6 = firstWhere badAmount accts in
-    row 2 when not (isOpen s) else
-    row 4 when badLengths o d room else
-    row 3 when badDayNumber last (d .number) else
+    let bad6 = firstWhere badAmount (accounts (o .k) d) in
     row 5 at bad5 when ltb bad5 count || lastMissing (o .n) (d .headings) else
     row 6 at bad6 when ltb bad6 count else
-    row 7 when eqb (total o accts) 0 else
+    Clear
+
+-- The rows of what a day brings: 4, 3, 5, 6. `last` is the last accepted day number.
+unfoldable pub dayRows : Opening → (last : ℕ) → DayInput → Refusal
+dayRows o last d =
+    row 4 when badInput o d else
+    row 3 when badDayNumber last (d .terms .number) else
+    accountRows o d
+
+-- "day 2, 4, 3, 5, 6, 7". Row 2: "day [..] while not open". Row 4 is met by the output or by the input. Row 7: "T is 0".
+unfoldable pub dayRefusal : Status → Opening → (last : ℕ) → DayInput → (room : ℕ) → Refusal
+dayRefusal s o last d room =
+    row 2 when not (isOpen s) else
+    row 4 when badOutput o room else
+    rows-of dayRows o last d else
+    row 7 when eqb (total o (accounts (o .k) d)) 0 else
     Clear
 
 -- ---- closing

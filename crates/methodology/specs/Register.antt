@@ -7,7 +7,8 @@ use Rattle.methodology.specs.declared.Status.{Status}
 use Rattle.methodology.specs.declared.Status.the-variants.{Fresh, Open, Closed}
 use Rattle.methodology.specs.declared.Refusal.{Refusal}
 use Rattle.methodology.specs.declared.Refusal.the-variants.{Clear, Row, RowAt}
-use Rattle.methodology.specs.Account.{Opening, DayInput, accounts}
+use Rattle.methodology.specs.declared.Opening.{Opening}
+use Rattle.methodology.specs.Account.{DayInput, noOpening, accounts}
 use Rattle.methodology.specs.Day.{total, maxEul, dailies}
 use Rattle.methodology.specs.Contribution.{KeptDay, highest, contributions, totalFunded}
 use Rattle.methodology.specs.Refusals.{openingRefusal, dayRefusal, closingRefusal}
@@ -26,7 +27,7 @@ pub record Register : Type 0 where
 
 -- "It starts fresh, with no day kept." No opening was accepted yet, and no answer depends on what is held then.
 abbrev pub start : Register
-start = record { status = Fresh; held = record { n = 0; k = 0; groups = [] }; days = [] }
+start = record { status = Fresh; held = noOpening; days = [] }
 
 -- "the last accepted day number is that of the last day kept, or 0 if there is none"; the last day kept is the first of the list
 abbrev pub lastNumber : List KeptDay → ℕ
@@ -47,7 +48,7 @@ accept g (day d room) =
     record {
       status = g .status;
       held = g .held;
-      days = record { number = d .number; accounts = accounts (g .held .k) d } ∷ g .days;
+      days = record { number = d .terms .number; accounts = accounts (g .held .k) d } ∷ g .days;
     }
 accept g (closing room) = record { status = Closed; held = g .held; days = g .days }
 

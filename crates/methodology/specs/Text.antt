@@ -11,7 +11,8 @@ use lib.ListN.{length, getD, take, drop}
 use Rattle.numbers.specs.Lists.{any}
 use Rattle.methodology.specs.declared.Refusal.{Refusal}
 use Rattle.methodology.specs.declared.Refusal.the-variants.{Clear, Row, RowAt}
-use Rattle.methodology.specs.Account.{Opening, DayInput, members, kindH, kindR, kindA, kindU}
+use Rattle.methodology.specs.declared.Opening.{Opening}
+use Rattle.methodology.specs.Account.{withGroups, DayInput, noAccounts, members, kindH, kindR, kindA, kindU}
 use Rattle.methodology.specs.Refusals.{outside, nOutside, kOutside, countOutside}
 use Rattle.methodology.specs.Register.{Call, Register, start, refusal, step, returned, written}
 
@@ -155,7 +156,7 @@ rows word width n out = flatMap (λ m. printed word (m ∷ take width (drop (wid
 -- an accepted day: "day number, T, Max EUL; member and its five numbers"
 unfoldable pub dayLines : (after : Register) → DayInput → (room : ℕ) → List ℕ
 dayLines g d room =
-    printed (bytes "day") (d .number ∷ returned g (Call.day d room)) ++ rows (bytes "daily") 5 (g .held .n) (written g (Call.day d room))
+    printed (bytes "day") (d .terms .number ∷ returned g (Call.day d room)) ++ rows (bytes "daily") 5 (g .held .n) (written g (Call.day d room))
 
 -- an accepted closing: "D, M, total funded; member and its three numbers"
 unfoldable pub fundLines : (after : Register) → (room : ℕ) → List ℕ
@@ -204,7 +205,7 @@ opened (RowAt number index) o = ends (refusedLine number 1)
 unfoldable pub readMember : Opening → (line : ℕ) → Option (List ℕ) → Read
 readMember o i none = bad i
 readMember o i (some ns) =
-    let o′ : Opening = record { n = o .n; k = o .k; groups = o .groups ++ (getD ns 1 0 ∷ []) } in
+    let o′ = withGroups o (o .groups ++ (getD ns 1 0 ∷ [])) in
     cond (eqb (getD ns 0 0) (length (o′ .groups)))
     (cond (eqb (length (o′ .groups)) (o .n)) (opened (refusal start (Call.opening o′)) o′) (goesOn [] (member o′)))
     (bad i)
@@ -214,7 +215,7 @@ unfoldable pub readDay : Register → (line : ℕ) → Option (List ℕ) → Rea
 readDay g i none = bad i
 readDay g i (some ns) =
     cond (countOutside (getD ns 1 0)) (ends (refusedLine 4 i))
-    (goesOn [] (account g (record { number = getD ns 0 0; headings = []; npvs = []; margins = []; extras = [] }) i (getD ns 1 0) 0))
+    (goesOn [] (account g (noAccounts (record { number = getD ns 0 0 })) i (getD ns 1 0) 0))
 
 -- "the day line for 3, 4 and 7, the account's (or next) line for 5 and 6"
 unfoldable pub sized : Refusal → Register → DayInput → (line : ℕ) → Read
@@ -228,7 +229,7 @@ sized (RowAt number index) g d i = ends (refusedLine number (i + 1 + index))
 unfoldable pub withAccount : DayInput → AccountLine → DayInput
 withAccount d a =
     record {
-      number = d .number;
+      terms = d .terms;
       headings = d .headings ++ (record { member = a .member; number = a .number; kind = a .kind } ∷ []);
       npvs = d .npvs ++ a .npvs;
       margins = d .margins ++ (a .margin ∷ []);

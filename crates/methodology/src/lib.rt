@@ -1,5 +1,18 @@
 // The types and the kinds that the definitions in specs/ share with the code of the crates that use this one. There is no code here.
 
+// What an opening brings. "A period has n members, numbered 1 to n (1 to 32), and k stress scenarios (1 to 16). Each member has a group
+// number, 0 to 32." In a call its groups are a list of any length; a period keeps them in 32 places, with 0 past the last.
+pub struct Opening {
+    pub n: u64,
+    pub k: u64,
+    pub groups: [u64; 32],
+}
+
+// What a day brings beside its accounts.
+pub struct DayTerms {
+    pub number: u64,
+}
+
 // What names an account of a day: its member, its account number and its kind. The fields take any number, since a wrong one is an answer
 // (row 5 of the refusal table) and nothing that a caller must rule out.
 pub struct Heading {

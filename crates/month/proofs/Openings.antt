@@ -10,7 +10,7 @@ use lib.Dec.{eqb}
 use lib.ListN.{length, getD, take, drop, set, length-append, length-set}
 use lib.Seq.{length-take-le, take-suc-set}
 use borrow.Author.Tests.{eqb-true, eq-eqb, ne-eqb}
-use Rattle.methodology.specs.Account.{Opening}
+use Rattle.methodology.specs.declared.Opening.{Opening}
 use Rattle.methodology.specs.Register.{Call, Register, start, refusal}
 use Rattle.methodology.specs.Text.{LF, bytes, split, refusedLine, numbersAfter, Expected, member, goesOn, opened, readMember, followedBy, reportFrom}
 use Rattle.methodology.specs.Lines.{indexOf, lineRead}

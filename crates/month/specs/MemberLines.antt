@@ -3,7 +3,7 @@ use mathlib.Core.List.{List, []}
 use mathlib.Core.Path.{_≡_}
 use Prim.Native.Nat.{ℕ, _+_, _≤_, _<_}
 use lib.ListN.{length, take, drop}
-use Rattle.methodology.specs.Account.{Opening}
+use Rattle.methodology.specs.declared.Opening.{Opening}
 use Rattle.methodology.specs.Register.{Call, start, refusal}
 use Rattle.methodology.specs.Text.{LF, split, refusedLine, member, opened, followedBy, reportFrom}
 use Rattle.period.specs.Reading.{brought}

@@ -10,7 +10,7 @@ use Rattle.methodology.specs.declared.Refusal.the-variants.{Clear}
 use Rattle.methodology.specs.Refusals.{isOpen, closingRefusal}
 use Rattle.methodology.proofs.Passed.{passed}
 use Rattle.quotient.specs.Ranges.{Charge}
-use Rattle.validation.proofs.Opening.{opening-leaves}
+use Rattle.validation.proofs.OpeningPasses.{opening-leaves}
 use Rattle.period.specs.declared.Period.{Period}
 use Rattle.period.specs.Calls.{held, statusOf, closingRow}
 use Rattle.period.proofs.Ranges.{Ranged, ranged, open-in-range}

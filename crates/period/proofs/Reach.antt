@@ -13,7 +13,8 @@ use Rattle.numbers.proofs.Lists.{table-take, own-table, any-map, none-any, rang
 use Rattle.methodology.specs.declared.Refusal.the-variants.{Clear}
 use Rattle.methodology.specs.declared.Status.{Status}
 use Rattle.methodology.specs.declared.Status.the-variants.{Fresh, Open, Closed}
-use Rattle.methodology.specs.Account.{Opening, DayInput, nobody}
+use Rattle.methodology.specs.declared.Opening.{Opening}
+use Rattle.methodology.specs.Account.{DayInput, nobody}
 use Rattle.methodology.specs.Member.{loss}
 use Rattle.methodology.specs.Day.{total, maxEul, scale, share}
 use Rattle.methodology.specs.Refusals.{isOpen, badOpening, openingRefusal, badLengths, badDayNumber, firstBadHeading, lastMissing, badAmount, dayRefusal}
@@ -22,7 +23,7 @@ use Rattle.quotient.specs.Ranges.{greatestTotal}
 use Rattle.quotient.proofs.Bounds.{share-le}
 use Rattle.exposure.proofs.MaxTotal.{loss-le-total, max-le-total}
 use Rattle.validation.proofs.Headings.{bad-heading-le}
-use Rattle.validation.proofs.Opening.{opening-leaves}
+use Rattle.validation.proofs.OpeningPasses.{opening-leaves}
 use Rattle.period.specs.declared.Period.{Period}
 use Rattle.period.specs.Calls.{freshPeriod, held, inRange, statusOf, openingRow, openedPeriod, accountsBrought, dayRow, shareAt, sizedPeriod, closingRow, closedPeriod}
 use Rattle.period.specs.Rows.{Passes}

@@ -7,12 +7,12 @@ use Rattle.numbers.specs.Lists.{range}
 use Rattle.numbers.specs.Sums.{Σ}
 use Rattle.methodology.specs.declared.Refusal.the-variants.{Clear, Row, RowAt}
 use Rattle.methodology.specs.declared.Status.the-variants.{Open}
-use Rattle.methodology.specs.Account.{Opening}
+use Rattle.methodology.specs.declared.Opening.{Opening}
 use Rattle.methodology.specs.Contribution.{funded, three}
 use Rattle.methodology.specs.Refusals.{isOpen, badOpening, openingRefusal}
 use Rattle.methodology.proofs.Passed.{passed}
-use Rattle.validation.specs.Rows.{Opened}
-use Rattle.validation.proofs.Opening.{opening-leaves}
+use Rattle.validation.specs.Passing.{Opened}
+use Rattle.validation.proofs.OpeningPasses.{opening-leaves}
 use Rattle.period.specs.declared.Period.{Period}
 use Rattle.period.specs.declared.Outcome.the-variants as says
 use Rattle.period.specs.Calls.{statusOf, openingRow, OpeningMeets, closingRow, sumsHeld, chargeBy, closedPeriod, ClosingMeets}

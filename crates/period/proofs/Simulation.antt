@@ -16,7 +16,8 @@ use Rattle.numbers.proofs.Lists.{mem-range, range-suc, map-eq, table-at, table-
 use Rattle.methodology.specs.declared.Refusal.{Refusal}
 use Rattle.methodology.specs.declared.Refusal.the-variants.{Clear, Row, RowAt}
 use Rattle.methodology.specs.declared.Status.the-variants.{Open}
-use Rattle.methodology.specs.Account.{Opening, DayInput, Account, members, accounts}
+use Rattle.methodology.specs.declared.Opening.{Opening}
+use Rattle.methodology.specs.Account.{DayInput, Account, members, accounts}
 use Rattle.methodology.specs.Member.{loss}
 use Rattle.methodology.specs.Day.{total, maxEul, share, dailies}
 use Rattle.methodology.specs.Contribution.{KeptDay, highest, sumOfShares, funded, three}

@@ -18,11 +18,11 @@ use Rattle.methodology.specs.Day.{total, maxEul, scale, share, five, dailies}
 use Rattle.methodology.specs.Refusals.{badInput, badAmount}
 use Rattle.quotient.specs.Ranges.{Loss, greatestTotal}
 use Rattle.validation.specs.Slices.{Lent, none}
-use Rattle.validation.proofs.Opening.{opening-leaves}
-use Rattle.validation.proofs.Day.{lengths-leave, sized, accounts-members}
+use Rattle.validation.proofs.OpeningPasses.{opening-leaves}
+use Rattle.validation.proofs.DayPasses.{lengths-leave, sized, accounts-members}
 use Rattle.exposure.specs.declared.day.Losses.{Losses}
 use Rattle.exposure.specs.Cut.{Owners}
-use Rattle.exposure.specs.Day.{Sizable, LossesAre}
+use Rattle.exposure.specs.DayFigures.{Sizable, LossesAre}
 use Rattle.exposure.proofs.Bounds.{total-small}
 use Rattle.exposure.proofs.Members.{owners}
 use Rattle.exposure.proofs.Admitted.{admitted, groups-few}

@@ -11,7 +11,8 @@ use Rattle.numbers.specs.Sums.{Σ}
 use Rattle.methodology.specs.declared.Status.{Status}
 use Rattle.methodology.specs.declared.Status.the-variants.{Fresh, Open, Closed}
 use Rattle.methodology.specs.declared.Refusal.{Refusal}
-use Rattle.methodology.specs.Account.{Opening, DayInput, Account, accounts}
+use Rattle.methodology.specs.declared.Opening.{Opening}
+use Rattle.methodology.specs.Account.{DayInput, Account, accounts}
 use Rattle.methodology.specs.Member.{loss}
 use Rattle.methodology.specs.Day.{total, maxEul, scale, share, dailies}
 use Rattle.methodology.specs.Contribution.{charge, funded, three}

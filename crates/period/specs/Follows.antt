@@ -3,7 +3,8 @@ use mathlib.Core.List.{List}
 use mathlib.Core.Path.{_≡_}
 use Prim.Native.Nat.{ℕ, _≤_}
 use lib.ListN.{length}
-use Rattle.methodology.specs.Account.{Opening, DayInput}
+use Rattle.methodology.specs.declared.Opening.{Opening}
+use Rattle.methodology.specs.Account.{DayInput}
 use Rattle.methodology.specs.Register.{Register}
 use Rattle.fund.specs.Counted.{Counted}
 use Rattle.period.specs.declared.Period.{Period}

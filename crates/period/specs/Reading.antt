@@ -3,7 +3,8 @@ use mathlib.Core.List.{List, [], _∷_}
 use Prim.Native.Nat.{ℕ}
 use lib.IntN.{ℤ}
 use Rattle.methodology.specs.declared.Heading.{Heading}
-use Rattle.methodology.specs.Account.{Opening, DayInput}
+use Rattle.methodology.specs.declared.Opening.{Opening}
+use Rattle.methodology.specs.Account.{DayInput}
 use Rattle.methodology.specs.Register.{Answer, accepted, refused, refusedAt}
 use Rattle.period.specs.declared.Outcome.{Outcome}
 use Rattle.period.specs.declared.Outcome.the-variants.{Opened, Sized, Closed, Refused, RefusedAt}

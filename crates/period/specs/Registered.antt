@@ -5,7 +5,7 @@ use Prim.Native.Nat.{ℕ, _+_}
 use lib.Dec.{ltb}
 use lib.ListN.{length, getD}
 use Rattle.numbers.specs.Lists.{range}
-use Rattle.methodology.specs.Account.{Opening}
+use Rattle.methodology.specs.declared.Opening.{Opening}
 use Rattle.methodology.specs.Contribution.{KeptDay, highest, sumOfShares}
 use Rattle.methodology.specs.Register.{Register, lastNumber}
 use Rattle.period.specs.declared.Period.{Period}

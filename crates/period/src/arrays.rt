@@ -10,7 +10,7 @@ ghost use Rattle.methodology.specs.Day.{maxEul};
 ghost use Rattle.methodology.specs.Refusals.{badOpening};
 ghost use Rattle.validation.specs.Slices.{Lent};
 ghost use Rattle.exposure.specs.Cut.{Owners};
-ghost use Rattle.exposure.specs.Day.{Sizable};
+ghost use Rattle.exposure.specs.DayFigures.{Sizable};
 ghost use Rattle.period.specs.Reading.{brought};
 
 // Whether row 1 is met by the opening that a period holds: its group numbers stand in the first n places of the array.

@@ -1,6 +1,7 @@
 pub mod Headings
 pub mod Amounts
-pub mod Opening
+pub mod OpeningPasses
 pub mod OpeningTests
-pub mod Day
+pub mod DayPasses
 pub mod Parts
+pub mod DayRows

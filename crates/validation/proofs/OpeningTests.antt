@@ -8,7 +8,8 @@ use lib.Dec.{ltb, eqb}
 use lib.ListN.{length}
 use borrow.Author.Tests.{lt-ltb, le-ltb}
 use Rattle.numbers.specs.Lists.{any}
-use Rattle.methodology.specs.Account.{Opening}
+use Rattle.methodology.specs.declared.Opening.{Opening}
+use Rattle.methodology.specs.Account.{withGroups}
 use Rattle.methodology.specs.Refusals.{nOutside, kOutside, groupOutside, badOpening}
 
 -- no number is below 0
@@ -17,9 +18,15 @@ unfolding any
 any-outside [] = refl
 any-outside (x ∷ l) = rw (le-ltb x 0 (omega arith), any-outside l)
 
-module _ (n k : ℕ) (groups : List ℕ) where
+module _ (opening : Opening) (groups : List ℕ) where
+  abbrev n : ℕ
+  n = opening .n
+
+  abbrev k : ℕ
+  k = opening .k
+
   abbrev o : Opening
-  o = record { n = n; k = k; groups = groups }
+  o = withGroups opening groups
 
   pub n-bad : nOutside n ≡ true → badOpening o ≡ true
   unfolding badOpening

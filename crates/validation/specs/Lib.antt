@@ -1,2 +1,2 @@
 pub mod Slices
-pub mod Rows
+pub mod Passing

@@ -1,22 +1,36 @@
--- A day in plain slices: how lists of numbers give headings and accounts, and what rows 4 to 6 of the refusal table leave of them.
+-- How the program holds what calls bring: a day in plain slices, with what rows 4 to 6 of the refusal table leave of them, and an opening.
 use mathlib.Core.Path.{_≡_}
 use mathlib.Core.List.{List, [], map}
 use Prim.Native.Nat.{ℕ, suc, _+_, _*_, _≤_, _<_}
 use lib.IntN.{ℤ, pos, natAbs}
 use lib.ListN.{length, getD, take, drop}
 use Rattle.numbers.specs.Lists.{range}
+use Rattle.methodology.specs.declared.Opening.{Opening}
+use Rattle.methodology.specs.declared.DayTerms.{DayTerms}
 use Rattle.methodology.specs.declared.Heading.{Heading}
-use Rattle.methodology.specs.Account.{DayInput, Account, nobody, headingAt, kindU}
+use Rattle.methodology.specs.Account.{withGroups, DayInput, Account, nobody, headingAt, kindU}
 use Rattle.methodology.specs.Refusals.{limit}
 
 -- the headings whose members, account numbers and kinds come as three slices
 unfoldable pub headings : (members numbers kinds : List ℕ) → List Heading
 headings members numbers kinds = map (headingAt members numbers kinds) (range 0 (length members))
 
+-- three slices of one length
+pub record Even (members numbers kinds : List ℕ) : Type 0 where
+  pub numbers-long : length numbers ≡ length members
+  pub kinds-long : length kinds ≡ length members
+
 -- a day in plain slices
-abbrev pub plainDay : (number : ℕ) → (members numbers kinds : List ℕ) → (npvs : List ℤ) → (margins extras : List ℕ) → DayInput
-plainDay number members numbers kinds npvs margins extras =
-    record { number = number; headings = headings members numbers kinds; npvs = npvs; margins = margins; extras = extras }
+abbrev pub plainDay : DayTerms → (members numbers kinds : List ℕ) → (npvs : List ℤ) → (margins extras : List ℕ) → DayInput
+plainDay terms members numbers kinds npvs margins extras =
+    record { terms = terms; headings = headings members numbers kinds; npvs = npvs; margins = margins; extras = extras }
+
+-- An opening as a period keeps it, with its groups in 32 places, from a list of them, and back.
+abbrev pub inPlaces : Opening → Opening
+inPlaces o = withGroups o (map (λ i. getD (o .groups) i 0) (range 0 32))
+
+abbrev pub listed : Opening → Opening
+listed o = withGroups o (take (o .n) (o .groups))
 
 -- an account of nobody, for an index past the last
 abbrev pub none : Account

@@ -1,10 +1,15 @@
-// The rows of the refusal table that go by a call's arguments: 5 and 6 here, over a day in plain slices, and the limits of rows 1, 3 and 4.
-// Any numbers may come in: a wrong one is an answer.
+// The rows of the refusal table that go by a call's arguments: those of a day in plain slices here, and the limits of rows 1, 3 and 4. Any
+// numbers may come in: a wrong one is an answer.
 pub mod limits;
 
+use crate::limits::bad_day_number;
+use crate::limits::bad_input;
+use methodology::DayTerms;
 use methodology::Heading;
 use methodology::KIND_H;
 use methodology::KIND_U;
+use methodology::Opening;
+use methodology::Refusal;
 ghost use mathlib.Core.Path.{_≡_};
 ghost use mathlib.Core.Bool.{_||_};
 ghost use mathlib.Core.List.{List};
@@ -13,8 +18,62 @@ ghost use lib.Dec.{ltb};
 ghost use lib.ListN.{length};
 ghost use Rattle.numbers.specs.Lists.{any, firstWhere};
 ghost use Rattle.methodology.specs.Account.{Account, nobody};
-ghost use Rattle.methodology.specs.Refusals.{memberOutside, notRising, numberAbove, kindUnknown, zeroAndHouseApart, firstNotZero, memberSkipped, badHeading, firstBadHeading, lastMissing, limit, npvOutside, outside, badAmount};
-ghost use Rattle.validation.specs.Slices.{headings, Amounts};
+ghost use Rattle.methodology.specs.Refusals.{memberOutside, notRising, numberAbove, kindUnknown, zeroAndHouseApart, firstNotZero, memberSkipped, badHeading, firstBadHeading, lastMissing, limit, npvOutside, outside, badAmount, accountRows, dayRows};
+ghost use Rattle.validation.specs.Slices.{headings, plainDay, Even, listed, Amounts};
+
+// The rows of what a day brings, in their order: 4, 3, 5, 6. `last` is the last accepted day number.
+pub fn day_rows(
+    opening: Opening,
+    last: u64,
+    terms: DayTerms,
+    members: &[u64],
+    numbers: &[u64],
+    kinds: &[u64],
+    npvs: &[i64],
+    margins: &[u64],
+    extras: &[u64],
+) -> Refusal
+    requires { ⌜ Even (now members) (now numbers) (now kinds) × (opening .k ≤ 16) ⌝ }
+    ensures { λ r. ⌜ r ≡ dayRows (listed opening) last (plainDay terms (now (members .entry)) (now (numbers .entry)) (now (kinds .entry)) (now (npvs .entry)) (now (margins .entry)) (now (extras .entry))) ⌝ }
+{
+    if bad_input(opening.k, members.len(), npvs.len(), margins.len(), extras.len()) {
+        return Refusal::Row(4); // before row 3
+    }
+    if bad_day_number(last, terms.number) {
+        return Refusal::Row(3);
+    }
+    account_rows(opening, members, numbers, kinds, npvs, margins, extras)
+}
+
+// The rows of a day's accounts, in their order: 5, 6.
+fn account_rows(
+    opening: Opening,
+    members: &[u64],
+    numbers: &[u64],
+    kinds: &[u64],
+    npvs: &[i64],
+    margins: &[u64],
+    extras: &[u64],
+) -> Refusal
+    requires { ⌜ Even (now members) (now numbers) (now kinds) × (opening .k ≤ 16) ⌝ }
+    requires { ⌜ (length (now npvs) ≡ length (now members) * (opening .k + 1)) × (length (now margins) ≡ length (now members)) × (length (now extras) ≡ length (now members)) ⌝ }
+    ensures { λ r. ⌜ ((terms : DayTerms) → r ≡ accountRows (listed opening) (plainDay terms (now (members .entry)) (now (numbers .entry)) (now (kinds .entry)) (now (npvs .entry)) (now (margins .entry)) (now (extras .entry)))) ⌝ }
+{
+    let count = members.len();
+    let n = opening.n;
+    let bad5 = first_bad_heading(members, numbers, kinds, n);
+    if bad5 < count {
+        return Refusal::RowAt(5, bad5 as u64);
+    }
+    if last_missing(members, n) {
+        return Refusal::RowAt(5, count as u64);
+    }
+    let bad6 = first_bad_amount(npvs, margins, extras, opening.k as usize);
+    if bad6 < count {
+        return Refusal::RowAt(6, bad6 as u64);
+    }
+    Refusal::Clear
+}
 
 // The index of the first bad heading, or the count of headings where none is bad. The period has n members.
 pub fn first_bad_heading(members: &[u64], numbers: &[u64], kinds: &[u64], n: u64) -> usize

@@ -1,9 +1,11 @@
-// Rows 1, 3 and 4 of the refusal table: the limits of what an opening brings, of a day's number, and of lengths.
+// Rows 1, 3 and 4 of the refusal table: the limits of what an opening brings, of a day's number, and of a day's lengths.
+use methodology::Opening;
 use numbers::any_above;
 ghost use mathlib.Core.Path.{_≡_};
 ghost use mathlib.Core.Bool.{not, _||_};
 ghost use Prim.Native.Nat.{_+_, _*_, _≤_};
 ghost use lib.Dec.{eqb};
+ghost use Rattle.methodology.specs.Account.{withGroups};
 ghost use Rattle.methodology.specs.Refusals.{outside as Refusals·outside, nOutside, kOutside, badOpening, badDayNumber, countOutside};
 
 // Whether x is below the least or above the most.
@@ -37,20 +39,20 @@ pub fn count_outside(count: u64) -> bool
     outside(1, 256, count)
 }
 
-// Whether row 1 is met.
-pub fn bad_opening(n: u64, k: u64, groups: &[u64]) -> bool
-    ensures { λ r. ⌜ r ≡ badOpening (record { n = n; k = k; groups = now (groups .entry) }) ⌝ }
+// Whether row 1 is met by an opening with these groups: in a call they are a list of any length.
+pub fn bad_opening(opening: Opening, groups: &[u64]) -> bool
+    ensures { λ r. ⌜ r ≡ badOpening (withGroups opening (now (groups .entry))) ⌝ }
 {
-    if n_outside(n) {
+    if n_outside(opening.n) {
         return true;
     }
-    if k_outside(k) {
+    if k_outside(opening.k) {
         return true;
     }
     if any_above(32, groups) {
         return true;
     }
-    groups.len() as u64 != n
+    groups.len() as u64 != opening.n
 }
 
 // Whether row 3 is met, where `last` is the last accepted day number.
@@ -79,23 +81,4 @@ pub fn bad_input(k: u64, count: usize, npvs: usize, margins: usize, extras: usiz
         return true;
     }
     extras != count
-}
-
-// Whether row 4 is met by what a day brings or by the length of the buffer that it is lent.
-pub fn bad_lengths(
-    n: u64,
-    k: u64,
-    count: usize,
-    npvs: usize,
-    margins: usize,
-    extras: usize,
-    room: usize,
-) -> bool
-    requires { ⌜ (n ≤ 32) × (k ≤ 16) ⌝ }
-    ensures { λ r. ⌜ r ≡ (countOutside count || not (eqb npvs (count * (k + 1))) || not (eqb margins count) || not (eqb extras count) || not (eqb room (5 * n))) ⌝ }
-{
-    if bad_input(k, count, npvs, margins, extras) {
-        return true;
-    }
-    room as u64 != 5 * n
 }

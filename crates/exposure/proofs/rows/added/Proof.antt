@@ -7,7 +7,7 @@ use lib.ListN.{getD}
 use Rattle.numbers.proofs.Signed.{back}
 use Rattle.numbers.proofs.Filling.{Filled, filled-none, filled-more, filled-all}
 use Rattle.exposure.proofs.Tables.{near-back, sum-fits}
-use Rattle.exposure.specs.Rows.{plus}
+use Rattle.exposure.specs.GroupRows.{plus}
 use Rattle.exposure.proofs.rows.added.Statement.{statement}
 use Rattle.exposure.proofs.rows.added.Tie as tie
 

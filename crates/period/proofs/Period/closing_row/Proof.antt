@@ -5,7 +5,7 @@ use mathlib.Core.Bool.{Bool, true, false}
 use native.Mathlib.Omega.{arith}
 use borrow.Author.Tests.{eq-eqb, ne-eqb, not-true, not-false}
 use Rattle.methodology.specs.Refusals.{row_when_else_, isOpen, closingRefusal}
-use Rattle.validation.proofs.Opening.{opening-leaves}
+use Rattle.validation.proofs.OpeningPasses.{opening-leaves}
 use Rattle.period.specs.Calls.{statusOf, closingRow}
 use Rattle.period.proofs.Ranges.{ranged, open-in-range}
 use Rattle.period.proofs.Period.closing_row.Statement.{statement}

@@ -9,9 +9,9 @@ use Rattle.methodology.specs.declared.Refusal.the-variants.{RowAt}
 use Rattle.methodology.specs.Account.{nobody}
 use Rattle.methodology.specs.Refusals.{isOpen, badLengths, badDayNumber, firstBadHeading, lastMissing}
 use Rattle.validation.specs.Slices.{Lent}
-use Rattle.validation.specs.Rows.{Opened}
+use Rattle.validation.specs.Passing.{Opened}
 use Rattle.validation.proofs.Headings.{headings-length}
-use Rattle.validation.proofs.Opening.{opening-leaves}
+use Rattle.validation.proofs.OpeningPasses.{opening-leaves}
 use Rattle.period.specs.Plain.{PlainDay, dayOf, Even}
 use Rattle.period.specs.Calls.{held, statusOf, accountsBrought}
 use Rattle.period.proofs.Ranges.{ranged, open-in-range}

@@ -7,10 +7,10 @@ use lib.ListN.{length, getD}
 use borrow.Author.Tests.{eqb-true, not-false}
 use Rattle.numbers.specs.Lists.{any}
 use Rattle.numbers.proofs.Lists.{any-false, mem-at}
-use Rattle.methodology.specs.Account.{Opening}
+use Rattle.methodology.specs.declared.Opening.{Opening}
 use Rattle.methodology.specs.Refusals.{nOutside, kOutside, groupOutside, badOpening}
 use Rattle.methodology.proofs.Passed.{inside}
-use Rattle.validation.specs.Rows.{Opened}
+use Rattle.validation.specs.Passing.{Opened}
 use Rattle.numbers.proofs.Tests.{neither}
 
 pub opening-leaves : (o : Opening) → badOpening o ≡ false → Opened o

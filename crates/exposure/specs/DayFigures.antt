@@ -1,19 +1,21 @@
 -- What the program finds of a day, for any accounts that its slices hold.
 use mathlib.Core.Path.{_≡_}
 use mathlib.Core.List.{List, map}
-use Prim.Native.Nat.{ℕ, _-_, _*_, _≤_}
+use Prim.Native.Nat.{ℕ, _-_, _*_, _≤_, _<_}
 use lib.IntN.{ℤ, pos, natAbs}
 use lib.ListN.{length, getD, take}
 use Rattle.numbers.specs.Sums.{Σ}
-use Rattle.methodology.specs.Account.{Opening, Account, members, eulUnder}
+use Rattle.methodology.specs.declared.Opening.{Opening}
+use Rattle.methodology.specs.Account.{Account, members, eulUnder}
 use Rattle.methodology.specs.Member.{memberEul, loss}
 use Rattle.methodology.specs.Day.{maxEul}
 use Rattle.methodology.specs.Refusals.{limit}
-use Rattle.validation.specs.Slices.{Lent, Within, Rising}
+use Rattle.validation.specs.Slices.{listed, Lent, Within, Rising}
 use Rattle.exposure.specs.declared.day.Losses.{Losses}
+use Rattle.exposure.specs.declared.day.Figures.{Figures}
 use Rattle.exposure.specs.Scenario.{eulBy}
 use Rattle.exposure.specs.Cut.{Owners, between}
-use Rattle.exposure.specs.Rows.{rowOf}
+use Rattle.exposure.specs.GroupRows.{rowOf}
 
 -- slices of a day of a period with n members and k scenarios, as rows 1 and 4 to 6 of the refusal table leave them
 pub record Sizable (n k : ℕ) (holders kinds : List ℕ) (npvs : List ℤ) (margins extras : List ℕ) : Type 0 where
@@ -39,11 +41,15 @@ pub record LossesAre (n k : ℕ) (holders kinds : List ℕ) (npvs : List ℤ) (m
   pub each : (accts : List Account) → Lent k kinds npvs margins extras accts → Owners holders accts → take n (r .each) ≡ map (loss k accts) (members n)
   pub total : (accts : List Account) → Lent k kinds npvs margins extras accts → Owners holders accts → r .total ≡ Σ (members n) (loss k accts)
 
--- the opening that these group numbers are of
-abbrev pub openingOf : (k : ℕ) → (groups : List ℕ) → Opening
-openingOf k groups = record { n = length groups; k = k; groups = groups }
+-- an opening's group numbers within their limit, as row 1 leaves them
+pub record Grouped (o : Opening) : Type 0 where
+  pub few : (i : ℕ) → i < o .n → getD (o .groups) i 0 ≤ 32
 
 -- Max EUL
-pub record MaxIs (k : ℕ) (groups holders kinds : List ℕ) (npvs : List ℤ) (margins extras : List ℕ) (r : ℕ) : Type 0 where
-  pub is :
-      (accts : List Account) → Lent k kinds npvs margins extras accts → Owners holders accts → r ≡ maxEul (openingOf k groups) accts
+pub record MaxIs (o : Opening) (holders kinds : List ℕ) (npvs : List ℤ) (margins extras : List ℕ) (r : ℕ) : Type 0 where
+  pub is : (accts : List Account) → Lent (o .k) kinds npvs margins extras accts → Owners holders accts → r ≡ maxEul (listed o) accts
+
+-- a day's own figures
+pub record FiguresAre (o : Opening) (holders kinds : List ℕ) (npvs : List ℤ) (margins extras : List ℕ) (r : Figures) : Type 0 where
+  pub losses : LossesAre (o .n) (o .k) holders kinds npvs margins extras (r .losses)
+  pub top : MaxIs o holders kinds npvs margins extras (r .top)

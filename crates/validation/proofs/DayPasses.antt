@@ -12,22 +12,19 @@ use lib.ListN.{length, getD, take, drop}
 use borrow.Author.Tests.{ltb-false, eqb-true, not-false}
 use Rattle.numbers.specs.Lists.{any, firstWhere}
 use Rattle.numbers.proofs.Tests.{neither}
-use Rattle.numbers.proofs.Lists.{table-length, table-at, own-table, part-at, part-length, mem-at, any-false, first-before}
-use Rattle.methodology.specs.Account.{Opening, DayInput, Account, nobody, headingAt, accountAt, accounts}
-use Rattle.methodology.specs.Refusals.{outside, countOutside, badInput, badOutput, badLengths, firstBadHeading, limit, npvOutside, badAmount}
-use Rattle.methodology.proofs.Passed.{inside}
+use Rattle.numbers.proofs.Lists.{table-length, table-at, own-table, part-at, part-length, mem-at, any-false, first-before, first-le}
+use Rattle.methodology.specs.declared.Refusal.the-variants.{Clear}
+use Rattle.methodology.specs.declared.Opening.{Opening}
+use Rattle.methodology.specs.declared.DayTerms.{DayTerms}
+use Rattle.methodology.specs.Account.{DayInput, Account, nobody, headingAt, accountAt, accounts}
+use Rattle.methodology.specs.Refusals.{outside, countOutside, badInput, badDayNumber, firstBadHeading, lastMissing, limit, npvOutside, badAmount, accountRows, dayRows}
+use Rattle.methodology.proofs.Passed.{passed, passed-at, inside}
 use Rattle.validation.specs.Slices.{headings, plainDay, none, Amounts, Lent}
-use Rattle.validation.specs.Rows.{Sized, Passed}
-use Rattle.validation.proofs.Headings.{headings-length, heading-at, headings-members, Fine, fine, all-good}
+use Rattle.validation.specs.Passing.{Sized, Passes, Passed}
+use Rattle.validation.proofs.Headings.{headings-length, heading-at, headings-members, Fine, fine, all-good, bad-heading-le}
 use Rattle.validation.proofs.Amounts.{npv-limit, badAt, bad-at}
 
--- row 4: what the day brings, and its output
-pub lengths-leave : (o : Opening) (d : DayInput) (room : ℕ) → badLengths o d room ≡ false → (badInput o d ≡ false) × (room ≡ 5 * o .n)
-unfolding badLengths
-lengths-leave o d room e =
-    let (input, output) = neither (badInput o d) (badOutput o room) e in
-    (input, eqb-true room (5 * o .n) (not-false _ output))
-
+-- row 4 of what the day brings
 pub sized : (o : Opening) (d : DayInput) → badInput o d ≡ false → Sized o d
 sized o d e =
     let count = length (d .headings) in
@@ -49,9 +46,9 @@ unfolding accounts accountAt
 accounts-headings k d = rw map-map (sym (own-table (d .headings) nobody))
 
 -- the accounts of plain slices
-module _ (k number : ℕ) (members numbers kinds : List ℕ) (npvs : List ℤ) (margins extras : List ℕ) where
+module _ (k : ℕ) (terms : DayTerms) (members numbers kinds : List ℕ) (npvs : List ℤ) (margins extras : List ℕ) where
   abbrev day : DayInput
-  day = plainDay number members numbers kinds npvs margins extras
+  day = plainDay terms members numbers kinds npvs margins extras
 
   pub accounts-members : map (λ a. a .heading .member) (accounts k day) ≡ members
   accounts-members = sym (map-map (λ h. h .member) (λ a. a .heading) (accounts k day)) ∙ ap (map (λ h. h .member)) (accounts-headings k day) ∙ headings-members members numbers kinds
@@ -121,17 +118,17 @@ module _ {k : ℕ} {npvs : List ℤ} {margins extras : List ℕ} {accts : List A
       rw (part-at (i * w) w npvs j (pos 0) j-in, div-add-mod' x w) at z
 
 -- rows 4 to 6 together
-pub rows-leave : (o : Opening) (number : ℕ) (members numbers kinds : List ℕ) (npvs : List ℤ) (margins extras : List ℕ) → length kinds ≡ length members
-    → let d = plainDay number members numbers kinds npvs margins extras in
+pub rows-leave : (o : Opening) (terms : DayTerms) (members numbers kinds : List ℕ) (npvs : List ℤ) (margins extras : List ℕ) → length kinds ≡ length members
+    → let d = plainDay terms members numbers kinds npvs margins extras in
     badInput o d ≡ false → firstBadHeading (o .n) nobody (d .headings) ≡ length (d .headings) → firstWhere badAmount (accounts (o .k) d) ≡ length (d .headings)
     → Passed o members kinds npvs margins extras
-rows-leave o number members numbers kinds npvs margins extras ek e4 e5 e6 =
-    let d = plainDay number members numbers kinds npvs margins extras in
+rows-leave o terms members numbers kinds npvs margins extras ek e4 e5 e6 =
+    let d = plainDay terms members numbers kinds npvs margins extras in
     let size = sized o d e4 in
     let hl : length (d .headings) ≡ length members = headings-length members numbers kinds in
-    let al : length (accounts (o .k) d) ≡ length members = accounts-length (o .k) number members numbers kinds npvs margins extras in
+    let al : length (accounts (o .k) d) ≡ length members = accounts-length (o .k) terms members numbers kinds npvs margins extras in
     let nl : length npvs ≡ length members * (o .k + 1) = rw hl at (size .npvs-long) in
-    let held = accounts-lent (o .k) number members numbers kinds npvs margins extras ek nl (omega arith) (omega arith) in
+    let held = accounts-lent (o .k) terms members numbers kinds npvs margins extras ek nl (omega arith) (omega arith) in
     let part = parts (held .amounts) (omega arith) in
     let heading-fine = fine-at (o .n) members numbers kinds e5 in
     record {
@@ -148,4 +145,29 @@ rows-leave o number members numbers kinds npvs margins extras ek e4 e5 e6 =
           };
       rising = record { least = λ i l. heading-fine i l .least; next = rises (o .n) members numbers kinds e5 };
       most = λ i l. heading-fine i l .most;
+    }
+
+-- a day has as many accounts as headings
+pub accounts-long : (k : ℕ) (d : DayInput) → length (accounts k d) ≡ length (d .headings)
+unfolding accounts
+accounts-long k d = table-length _ 0 (length (d .headings))
+
+-- a day that rows 4, 3, 5 and 6 let pass meets none of their conditions
+pub passes : (o : Opening) (last : ℕ) (d : DayInput) → dayRows o last d ≡ Clear → Passes o last d
+unfolding dayRows accountRows
+passes o last d e =
+    let hs = d .headings in
+    let bad5 = firstBadHeading (o .n) nobody hs in
+    let bad6 = firstWhere badAmount (accounts (o .k) d) in
+    let (e4, r₁) = passed 4 (badInput o d) _ e in
+    let (e3, r₂) = passed 3 (badDayNumber last (d .terms .number)) _ r₁ in
+    let (e5, r₃) = passed-at 5 bad5 (ltb bad5 (length hs) || lastMissing (o .n) hs) _ r₂ in
+    let (e6, _) = passed-at 6 bad6 (ltb bad6 (length hs)) Clear r₃ in
+    let (f, m) = neither (ltb bad5 (length hs)) (lastMissing (o .n) hs) e5 in
+    record {
+      input = e4;
+      number = e3;
+      headings = omega (arith, ltb-false bad5 (length hs) f, bad-heading-le (o .n) nobody hs);
+      complete = m;
+      amounts = omega (arith, ltb-false bad6 (length hs) e6, first-le badAmount (accounts (o .k) d), accounts-long (o .k) d);
     }
