@@ -1,15 +1,38 @@
--- What a day writes for a list of losses is `dailies`, when these are the members' losses of the day.
-use mathlib.Core.Path.{_≡_}
+-- What a day writes for a list of losses is `dailies`, when these are the members' losses of the day; and where each share stands in it.
+use mathlib.Core.Path.{_≡_, refl, ap, _∙_}
 use mathlib.Core.List.{List, map, flatMap}
-use Prim.Native.Nat.{ℕ}
-use lib.ListN.{take}
-use Rattle.numbers.proofs.Rows.{flatMap-map}
+use Prim.Native.Nat.{ℕ, _+_, _*_, _<_}
+use native.Mathlib.Omega.{arith}
+use lib.ListN.{length, take}
+use Rattle.numbers.proofs.Lists.{range-length, range-at}
+use Rattle.numbers.proofs.Rows.{flatMap-map, rows-length, rows-at}
 use Rattle.methodology.specs.declared.Opening.{Opening}
 use Rattle.methodology.specs.Account.{Account, members}
 use Rattle.methodology.specs.Member.{loss}
-use Rattle.methodology.specs.Day.{total, maxEul, five, dailies}
+use Rattle.methodology.specs.Day.{total, maxEul, share, five, dailies}
+use Rattle.fund.specs.Shares.{shareIn}
 
 pub are-dailies : (o : Opening) (accts : List Account) (losses : List ℕ) → take (o .n) losses ≡ map (loss (o .k) accts) (members (o .n))
     → flatMap (λ e. five e (maxEul o accts) (total o accts)) (take (o .n) losses) ≡ dailies o accts
 unfolding dailies
 are-dailies o accts losses h = rw (h, flatMap-map)
+
+five-wide : (e top t : ℕ) → length (five e top t) ≡ 5
+unfolding five
+five-wide e top t = refl
+
+module _ (o : Opening) (accts : List Account) where
+  abbrev fiveOf : (m : ℕ) → List ℕ
+  fiveOf m = five (loss (o .k) accts m) (maxEul o accts) (total o accts)
+
+  pub dailies-long : length (dailies o accts) ≡ 5 * o .n
+  unfolding dailies
+  dailies-long =
+      rows-length 5 fiveOf (λ m. five-wide (loss (o .k) accts m) (maxEul o accts) (total o accts)) (members (o .n)) ∙ ap (λ (n : ℕ). 5 * n) (range-length 1 (o .n))
+
+  -- member i + 1's
+  pub share-written : (i : ℕ) → i < o .n → shareIn (dailies o accts) i ≡ share (loss (o .k) accts (1 + i)) (total o accts)
+  unfolding dailies five
+  share-written i h =
+      rows-at 5 fiveOf (λ m. five-wide (loss (o .k) accts m) (maxEul o accts) (total o accts)) (members (o .n)) i 1 0 0 (omega (arith, range-length 1 (o .n))) (omega arith)
+      ∙ ap (λ (m : ℕ). share (loss (o .k) accts m) (total o accts)) (range-at 1 (o .n) i 0 h)

@@ -7,7 +7,7 @@ ghost use Rattle.numbers.specs.Sums.{Σ};
 ghost use Rattle.methodology.specs.Day.{scale, five};
 ghost use Rattle.methodology.specs.Contribution.{charge, funded, three};
 ghost use Rattle.quotient.specs.Ranges.{greatestTotal, Loss, Charge};
-ghost use Rattle.fund.specs.Shares.{withShares};
+ghost use Rattle.fund.specs.Shares.{shareIn, withShares};
 
 // One member's five daily numbers, at the front of out: its loss is e, the total t, the day's Max EUL max.
 fn write_five(e: u64, max: u64, t: u64, out: &mut [u64])
@@ -36,17 +36,17 @@ pub fn write_dailies(losses: [u64; 32], n: usize, max: u64, total: u64, out: &mu
     }
 }
 
-// The sums of n members' shares, with those that these losses have in the total.
-pub fn with_shares(sums: [u64; 32], losses: [u64; 32], n: usize, total: u64) -> [u64; 32]
-    requires { ⌜ n ≤ 32 ⌝ }
-    requires { ⌜ ((i : ℕ) → i < n → Loss (getD losses i 0) total) ⌝ }
+// The sums of n members' shares, with those that stand in what a day wrote.
+pub fn with_shares(sums: [u64; 32], n: usize, out: &[u64]) -> [u64; 32]
+    requires { ⌜ (n ≤ 32) × (length (now out) ≡ 5 * n) ⌝ }
+    requires { ⌜ ((i : ℕ) → i < n → shareIn (now out) i ≤ scale) ⌝ }
     requires { ⌜ ((i : ℕ) → getD sums i 0 ≤ 31 * scale) ⌝ }
-    ensures { λ r. ⌜ r ≡ withShares sums losses n total ⌝ }
+    ensures { λ r. ⌜ r ≡ withShares sums n (now (out .entry)) ⌝ }
 {
     let mut all = sums;
     let mut i: usize = 0;
     while i < n {
-        all[i] = sums[i] + quotient::share(losses[i], total);
+        all[i] = sums[i] + out[5 * i + 1];
         i += 1;
     }
     all

@@ -17,26 +17,26 @@ use Rattle.period.proofs.Ranges.{Ranged, ranged, open-in-range}
 
 pub record Closable (p : Period) (room : ℕ) : Type 0 where
   pub opened : isOpen (statusOf p) ≡ true
-  pub some : 0 < p .days
-  pub room-long : room ≡ 3 * p .n
+  pub some : 0 < p .accrued .days
+  pub room-long : room ≡ 3 * p .held .n
 
 pub closable : (p : Period) (room : ℕ) → closingRow p room ≡ Clear → Closable p room
 unfolding closingRow closingRefusal
 closable p room e =
     let (o, r₁) = passed 2 (not (isOpen (statusOf p))) _ e in
-    let (z, r₂) = passed 8 (eqb (p .days) 0) _ r₁ in
-    let (l, _) = passed 4 (not (eqb room (3 * p .n))) _ r₂ in
-    let positive = eqb-false (p .days) 0 z in
+    let (z, r₂) = passed 8 (eqb (p .accrued .days) 0) _ r₁ in
+    let (l, _) = passed 4 (not (eqb room (3 * p .held .n))) _ r₂ in
+    let positive = eqb-false (p .accrued .days) 0 z in
     record { opened = not-false _ o; some = omega arith; room-long = eqb-true _ _ (not-false _ l) }
 
 module _ {p : Period} {room : ℕ} (c : Closable p room) where
   pub in-range : Ranged p
   in-range = ranged p (open-in-range p (c .opened))
 
-  pub members-few : p .n ≤ 32
+  pub members-few : p .held .n ≤ 32
   members-few = opening-leaves (held p) (in-range .opened) .members-few
 
-  pub charges : (i : ℕ) → i < p .n → Charge (p .highest) (getD (p .sums) i 0) (p .days)
+  pub charges : (i : ℕ) → i < p .held .n → Charge (p .accrued .highest) (getD (p .accrued .sums) i 0) (p .accrued .days)
   charges i h =
       let r = in-range in
       record { bounded = r .bounded; positive = c .some; month = omega (arith, r .counted, r .month); shares = r .sums i }

@@ -13,19 +13,20 @@ use lib.Seq.{getD-drop, drop-append-seam, length-take-le, getD-take, take-all}
 use borrow.Author.Tests.{lt-ltb, le-ltb, ltb-true, ltb-false}
 use Rattle.numbers.specs.Lists.{range}
 use Rattle.numbers.proofs.Lists.{mem-range, map-eq, table-at, own-table, part-length, part-at}
+use Rattle.methodology.specs.declared.DayTerms.{DayTerms}
 use Rattle.methodology.specs.declared.Heading.{Heading}
 use Rattle.methodology.specs.declared.Refusal.the-variants.{Row}
 use Rattle.methodology.specs.Account.{DayInput, nobody}
-use Rattle.methodology.specs.Refusals.{row_when_else_, isOpen, countOutside, badLengths, dayRefusal}
+use Rattle.methodology.specs.Refusals.{row_when_else_, rows-of_else_, isOpen, countOutside, badOutput, dayRows, dayRefusal}
 use Rattle.headings.specs.Columns.{column, columns}
 use Rattle.headings.proofs.Filled.{column-length, columns-length}
-use Rattle.validation.specs.Slices.{headings, plainDay}
+use Rattle.validation.specs.Slices.{headings, plainDay, Even}
 use Rattle.validation.proofs.Headings.{headings-length}
 use Rattle.period.specs.declared.Period.{Period}
 use Rattle.period.specs.declared.Reply.{Reply}
 use Rattle.period.specs.Reading.{dayBrought}
-use Rattle.period.specs.Calls.{statusOf, dayRow, DayMeets}
-use Rattle.period.specs.Plain.{cutDay, Even}
+use Rattle.period.specs.Calls.{held, statusOf, dayRow, DayMeets}
+use Rattle.period.specs.Plain.{cutDay}
 
 -- parts of a slice of 768 places
 module _ (n : ℕ) (all : List ℕ) (few : n ≤ 256) (full : length all ≡ 768) where
@@ -41,10 +42,10 @@ module _ (n : ℕ) (all : List ℕ) (few : n ≤ 256) (full : length all ≡ 768
 rest : (a n : ℕ) → a + n - a ≡ n
 rest a n = omega arith
 
-pub cut-meets : (p : Period) (number n : ℕ) (all : List ℕ) (npvs : List ℤ) (margins extras out : List ℕ) (r : Reply) (after : List ℕ)
-    → DayMeets p (plainDay number (take n all) (take (256 + n - 256) (drop 256 all)) (take (512 + n - 512) (drop 512 all)) npvs margins extras) out r after
-    → DayMeets p (cutDay number n all npvs margins extras) out r after
-cut-meets p number n all npvs margins extras out r after m = rw (rest 256 n, rest 512 n) at m
+pub cut-meets : (p : Period) (terms : DayTerms) (n : ℕ) (all : List ℕ) (npvs : List ℤ) (margins extras out : List ℕ) (r : Reply) (after : List ℕ)
+    → DayMeets p (plainDay terms (take n all) (take (256 + n - 256) (drop 256 all)) (take (512 + n - 512) (drop 512 all)) npvs margins extras) out r after
+    → DayMeets p (cutDay terms n all npvs margins extras) out r after
+cut-meets p terms n all npvs margins extras out r after m = rw (rest 256 n, rest 512 n) at m
 
 -- past the first of two lists
 past : (xs ys : List ℕ) (n i : ℕ) → length xs ≡ n → getD (xs ++ ys) (n + i) 0 ≡ getD ys i 0
@@ -107,12 +108,13 @@ module _ (hs : List Heading) where
 
 -- a day with no accounts, or more than 256, is refused by its length at the latest
 uncounted : (p : Period) (d : DayInput) (room : ℕ) → countOutside (length (d .headings)) ≡ true → dayRow p d room ≡ Row (cond (isOpen (statusOf p)) 4 2)
-unfolding dayRow dayRefusal badLengths row_when_else_
-uncounted p d room e = by (isOpen (statusOf p)) refl
+unfolding dayRow dayRefusal dayRows row_when_else_ rows-of_else_
+uncounted p d room e = by (isOpen (statusOf p)) (badOutput (held p) room) refl refl
   where
-    by : (b : Bool) → isOpen (statusOf p) ≡ b → dayRow p d room ≡ Row (cond b 4 2)
-    by true o = rw (o, e)
-    by false o = rw o
+    by : (b x : Bool) → isOpen (statusOf p) ≡ b → badOutput (held p) room ≡ x → dayRow p d room ≡ Row (cond b 4 2)
+    by true true o f = rw (o, f)
+    by true false o f = rw (o, f, e)
+    by false x o f = rw o
 
 -- and then all else is as before
 refused-alike : (p : Period) (d d′ : DayInput) (number : ℕ) (out : List ℕ) (r : Reply) (after : List ℕ)
@@ -121,23 +123,23 @@ refused-alike p d d′ number out r after e e′ m =
     record { answer = rw e′ (rw e at (m .answer)); period = rw e′ (rw e at (m .period)); buffer = rw e′ (rw e at (m .buffer)) }
 
 -- so a day in columns, cut to the number of its headings, is the day of its headings
-pub columns-meet : (p : Period) (number count n : ℕ) (all : List ℕ) (npvs : List ℤ) (margins extras out : List ℕ) (r : Reply) (after : List ℕ) → n ≡ cond (ltb 256 count) 0 count
-    → DayMeets p (cutDay number n all npvs margins extras) out r after
-    → (hs : List Heading) → length hs ≡ count → all ≡ columns hs → DayMeets p (dayBrought number hs npvs margins extras) out r after
-columns-meet p number count n all npvs margins extras out r after e m hs long same = by (ltb 256 count) refl e
+pub columns-meet : (p : Period) (terms : DayTerms) (count n : ℕ) (all : List ℕ) (npvs : List ℤ) (margins extras out : List ℕ) (r : Reply) (after : List ℕ) → n ≡ cond (ltb 256 count) 0 count
+    → DayMeets p (cutDay terms n all npvs margins extras) out r after
+    → (hs : List Heading) → length hs ≡ count → all ≡ columns hs → DayMeets p (dayBrought terms hs npvs margins extras) out r after
+columns-meet p terms count n all npvs margins extras out r after e m hs long same = by (ltb 256 count) refl e
   where
-    none-left : countOutside (length (cutDay number 0 all npvs margins extras .headings)) ≡ true
+    none-left : countOutside (length (cutDay terms 0 all npvs margins extras .headings)) ≡ true
     none-left = ap countOutside (headings-length (take 0 all) (take 0 (drop 256 all)) (take 0 (drop 512 all)) ∙ length-take-le 0 all (omega arith))
 
-    by : (b : Bool) → ltb 256 count ≡ b → n ≡ cond b 0 count → DayMeets p (dayBrought number hs npvs margins extras) out r after
+    by : (b : Bool) → ltb 256 count ≡ b → n ≡ cond b 0 count → DayMeets p (dayBrought terms hs npvs margins extras) out r after
     by true t z =
-        refused-alike p (cutDay number 0 all npvs margins extras) (dayBrought number hs npvs margins extras) (cond (isOpen (statusOf p)) 4 2) out r after
-        (uncounted p (cutDay number 0 all npvs margins extras) (length out) none-left)
-        (uncounted p (dayBrought number hs npvs margins extras) (length out) (too-many (length hs) (omega (arith, ltb-true 256 count t))))
+        refused-alike p (cutDay terms 0 all npvs margins extras) (dayBrought terms hs npvs margins extras) (cond (isOpen (statusOf p)) 4 2) out r after
+        (uncounted p (cutDay terms 0 all npvs margins extras) (length out) none-left)
+        (uncounted p (dayBrought terms hs npvs margins extras) (length out) (too-many (length hs) (omega (arith, ltb-true 256 count t))))
         (rw z at m)
     by false t z =
         let few : n ≤ 256 = omega (arith, ltb-false 256 count t) in
-        let m′ : DayMeets p (cutDay number n (columns hs) npvs margins extras) out r after = rw same at m in
+        let m′ : DayMeets p (cutDay terms n (columns hs) npvs margins extras) out r after = rw same at m in
         rw (headings-back hs n (long ∙ sym z) few) at m′
 
 pub counted-few : (n count : ℕ) → n ≡ cond (ltb 256 count) 0 count → n ≤ 256
@@ -155,6 +157,6 @@ within-same hs n count full e = by (decLe count 256)
     by (yes h) = let same : n ≡ count = omega arith in ap (λ (m : ℕ). take m hs) same
     by (no h) = take-all n hs (omega arith) ∙ sym (take-all count hs (omega arith))
 
-pub within-meets : (p : Period) (number n count : ℕ) (hs : List Heading) (npvs : List ℤ) (margins extras out : List ℕ) (r : Reply) (after : List ℕ) → length hs ≡ 256 → n ≡ min count 256
-    → DayMeets p (dayBrought number (take n hs) npvs margins extras) out r after → DayMeets p (dayBrought number (take count hs) npvs margins extras) out r after
-within-meets p number n count hs npvs margins extras out r after full e m = rw (within-same hs n count full e) at m
+pub within-meets : (p : Period) (terms : DayTerms) (n count : ℕ) (hs : List Heading) (npvs : List ℤ) (margins extras out : List ℕ) (r : Reply) (after : List ℕ) → length hs ≡ 256 → n ≡ min count 256
+    → DayMeets p (dayBrought terms (take n hs) npvs margins extras) out r after → DayMeets p (dayBrought terms (take count hs) npvs margins extras) out r after
+within-meets p terms n count hs npvs margins extras out r after full e m = rw (within-same hs n count full e) at m

@@ -1,6 +1,6 @@
+mod ByFields
 pub mod Replies
 pub mod Ranges
-mod DayRows
 pub mod Sizing
 pub mod Closings
 mod Columns

@@ -19,11 +19,11 @@ use Rattle.period.specs.declared.Period.{Period}
 use Rattle.period.specs.Calls.{held, inRange, statusOf}
 
 pub record Ranged (p : Period) : Type 0 where
-  pub month : p .last ≤ 31
-  pub counted : p .days ≤ p .last
-  pub bounded : p .highest ≤ greatestTotal
+  pub month : p .accrued .last ≤ 31
+  pub counted : p .accrued .days ≤ p .accrued .last
+  pub bounded : p .accrued .highest ≤ greatestTotal
   pub opened : badOpening (held p) ≡ false
-  pub sums : (i : ℕ) → getD (p .sums) i 0 ≤ p .days * scale
+  pub sums : (i : ℕ) → getD (p .accrued .sums) i 0 ≤ p .accrued .days * scale
 
 -- no number of a list is above `most`
 none-above : (most : ℕ) (l : List ℕ) → any (ltb most) l ≡ false → (i : ℕ) → getD l i 0 ≤ most
@@ -32,16 +32,16 @@ none-above most l e = at-any (λ x. x ≤ most) l 0 (omega arith) (λ i h. ltb-f
 pub ranged : (p : Period) → inRange p ≡ true → Ranged p
 unfolding inRange
 ranged p e =
-    let (r₄, e₅) = both _ (not (any (ltb (p .days * scale)) (p .sums))) e in
+    let (r₄, e₅) = both _ (not (any (ltb (p .accrued .days * scale)) (p .accrued .sums))) e in
     let (r₃, e₄) = both _ (not (badOpening (held p))) r₄ in
-    let (r₂, e₃) = both _ (leb (p .highest) greatestTotal) r₃ in
-    let (e₁, e₂) = both _ (leb (p .days) (p .last)) r₂ in
+    let (r₂, e₃) = both _ (leb (p .accrued .highest) greatestTotal) r₃ in
+    let (e₁, e₂) = both _ (leb (p .accrued .days) (p .accrued .last)) r₂ in
     record {
-      month = omega (arith, leb-true (p .last) _ e₁);
+      month = omega (arith, leb-true (p .accrued .last) _ e₁);
       counted = leb-true _ _ e₂;
       bounded = leb-true _ _ e₃;
       opened = not-true _ e₄;
-      sums = none-above (p .days * scale) (p .sums) (not-true _ e₅);
+      sums = none-above (p .accrued .days * scale) (p .accrued .sums) (not-true _ e₅);
     }
 
 -- a period that counts as open is in range

@@ -15,9 +15,8 @@ use Rattle.numbers.specs.Sums.{Σ, greatest}
 use Rattle.numbers.proofs.Lists.{mem-range, range-suc, map-eq, table-at, table-take}
 use Rattle.methodology.specs.declared.Refusal.{Refusal}
 use Rattle.methodology.specs.declared.Refusal.the-variants.{Clear, Row, RowAt}
-use Rattle.methodology.specs.declared.Status.the-variants.{Open}
 use Rattle.methodology.specs.declared.Opening.{Opening}
-use Rattle.methodology.specs.Account.{DayInput, Account, members, accounts}
+use Rattle.methodology.specs.Account.{withGroups, DayInput, Account, members, accounts}
 use Rattle.methodology.specs.Member.{loss}
 use Rattle.methodology.specs.Day.{total, maxEul, share, dailies}
 use Rattle.methodology.specs.Contribution.{KeptDay, highest, sumOfShares, funded, three}
@@ -29,9 +28,11 @@ use Rattle.period.specs.declared.Reply.{Reply}
 use Rattle.period.specs.Reading.{answerOf}
 use Rattle.period.specs.Registered.{sumAt, periodOf}
 use Rattle.period.specs.Follows.{Reached, fresh, by-opening, by-day, by-closing, Good, Follows}
-use Rattle.period.specs.Calls.{freshPeriod, held, statusOf, openingRow, openedPeriod, OpeningMeets, accountsBrought, dayRow, sizedPeriod, DayMeets, closingRow, sumsHeld, chargeBy, closedPeriod, ClosingMeets}
+use Rattle.period.specs.Calls.{freshPeriod, withAccrued, held, statusOf, openingRow, openedPeriod, OpeningMeets, accountsBrought, dayRow, sizedPeriod, DayMeets, closingRow, sumsHeld, chargeBy, closedPeriod, ClosingMeets}
 use Rattle.period.proofs.Replies.{opening-passed}
-use Rattle.period.proofs.Reach.{held-opened, passes, status-counts}
+use Rattle.period.proofs.ByFields.{by-fields}
+use Rattle.period.proofs.Sizing.{passes-all}
+use Rattle.period.proofs.Reach.{held-opened, status-counts}
 
 pub starts : Follows start freshPeriod
 unfolding periodOf highest greatest range
@@ -40,7 +41,7 @@ starts = record { is = refl; reached = fresh; good = record { groups-long = refl
 held-is : (g : Register) → Good g → held (periodOf g) ≡ g .held
 unfolding periodOf
 held-is g q =
-    ap (λ (groups : List ℕ). record { n = g .held .n; k = g .held .k; groups = groups }) (held-opened (g .held) (q .groups-long) (q .members-few))
+    ap (withGroups (g .held)) (held-opened (g .held) (q .groups-long) (q .members-few))
 
 -- the sums that it holds
 sums-are : (g : Register) → Good g → sumsHeld (periodOf g) ≡ map (sumOfShares (g .held) (g .days)) (members (g .held .n))
@@ -110,8 +111,7 @@ opening-row f o = rw (open-alike f)
 
 opened-is : (g : Register) (o : Opening) → openedPeriod o ≡ periodOf (accept g (Call.opening o))
 unfolding periodOf accept highest greatest
-opened-is g o =
-    ap (λ (sums : List ℕ). record { status = Open; n = o .n; k = o .k; groups = map (λ i. getD (o .groups) i 0) (range 0 32); last = 0; days = 0; highest = 0; sums = sums }) (no-sums o)
+opened-is g o = ap (withAccrued (openedPeriod o)) (by-fields refl refl refl (no-sums o))
 
 opened-good : (g : Register) (p : Period) (o : Opening) → openingRow p o ≡ Clear → Good (accept g (Call.opening o))
 unfolding accept
@@ -134,7 +134,7 @@ day-row : {g : Register} {p : Period} → Follows g p → (d : DayInput) (room :
 unfolding dayRow refusal dayRefusal periodOf
 day-row {g} {p} f d room =
     let o : held p ≡ g .held = ap held (f .is) ∙ held-is g (f .good) in
-    let l : p .last ≡ lastNumber (g .days) = ap (λ (p : Period). p .last) (f .is) in
+    let l : p .accrued .last ≡ lastNumber (g .days) = ap (λ (p : Period). p .accrued .last) (f .is) in
     rw (open-alike f, o, l)
 
 -- the day that is kept
@@ -143,32 +143,21 @@ module _ (g : Register) (q : Good g) (d : DayInput) where
   accts = accounts (g .held .k) d
 
   abbrev kept : KeptDay
-  kept = record { number = d .number; accounts = accts }
+  kept = record { number = d .terms .number; accounts = accts }
 
   -- the sums after it
   added : (b : Bool) (x y : ℕ) → cond b x 0 + cond b y 0 ≡ cond b (y + x) 0
   added true x y = add-comm x y
   added false x y = refl
 
-  more-sums : map (λ i. getD (map (sumAt (g .held) (g .days)) (range 0 32)) i 0 + cond (ltb i (g .held .n)) (share (loss (g .held .k) accts (i + 1)) (total (g .held) accts)) 0) (range 0 32)
+  abbrev shareOf : Opening → (i : ℕ) → ℕ
+  shareOf o i = cond (ltb i (g .held .n)) (share (loss (g .held .k) accts (i + 1)) (total o accts)) 0
+
+  more-sums : map (λ i. getD (map (sumAt (g .held) (g .days)) (range 0 32)) i 0 + shareOf (g .held) i) (range 0 32)
       ≡ map (sumAt (g .held) (kept ∷ g .days)) (range 0 32)
   unfolding sumOfShares Σ
   more-sums =
       map-eq _ _ (range 0 32) (λ i m. rw (table-at (sumAt (g .held) (g .days)) 0 32 i 0 (omega (arith, mem-range 0 32 m .1)), zero-add i) (added (ltb i (g .held .n)) _ _))
-
-  -- the period after it, for any opening that the period may hold, and that which it holds
-  abbrev sizedBy : Opening → Period
-  sizedBy o =
-      record {
-        status = g .status;
-        n = g .held .n;
-        k = g .held .k;
-        groups = map (λ i. getD (g .held .groups) i 0) (range 0 32);
-        last = d .number;
-        days = length (g .days) + 1;
-        highest = max (highest (g .held) (g .days)) (maxEul o accts);
-        sums = map (λ i. getD (map (sumAt (g .held) (g .days)) (range 0 32)) i 0 + cond (ltb i (g .held .n)) (share (loss (g .held .k) accts (i + 1)) (total o accts)) 0) (range 0 32);
-      }
 
   max-other : (a b : ℕ) → max a b ≡ max b a
   max-other a b = omega arith
@@ -176,17 +165,11 @@ module _ (g : Register) (q : Good g) (d : DayInput) where
   sized-is : (room : ℕ) → sizedPeriod (periodOf g) d ≡ periodOf (accept g (Call.day d room))
   unfolding periodOf accept highest greatest
   sized-is room =
-      ap sizedBy (held-is g q)
-      ∙ (λ i. record {
-        status = g .status;
-        n = g .held .n;
-        k = g .held .k;
-        groups = map (λ j. getD (g .held .groups) j 0) (range 0 32);
-        last = d .number;
-        days = add-one (length (g .days)) i;
-        highest = max-other (highest (g .held) (g .days)) (maxEul (g .held) accts) i;
-        sums = more-sums i;
-      })
+      let same = held-is g q in
+      ap (withAccrued (periodOf g))
+      (by-fields refl (add-one (length (g .days)))
+      (ap (λ (o : Opening). max (highest (g .held) (g .days)) (maxEul o accts)) same ∙ max-other (highest (g .held) (g .days)) (maxEul (g .held) accts))
+      (ap (λ (o : Opening). map (λ i. getD (map (sumAt (g .held) (g .days)) (range 0 32)) i 0 + shareOf o i) (range 0 32)) same ∙ more-sums))
 
   sized-good : (room : ℕ) → 0 < total (held (periodOf g)) (accountsBrought (periodOf g) d) → Good (accept g (Call.day d room))
   unfolding accept periodOf
@@ -212,7 +195,7 @@ day-follows {g} {p} {d} {before} f m =
     let room = length before in
     let c = Call.day d room in
     let same = day-row f d room in
-    let positive : dayRow p d room ≡ Clear → 0 < total (held (periodOf g)) (accountsBrought (periodOf g) d) = λ e. subst (λ (p : Period). 0 < total (held p) (accountsBrought p d)) (f .is) (passes p d room e .1) in (
+    let positive : dayRow p d room ≡ Clear → 0 < total (held (periodOf g)) (accountsBrought (periodOf g) d) = λ e. subst (λ (p : Period). 0 < total (held p) (accountsBrought p d)) (f .is) (passes-all p d room e .1) in (
       leads g c (dayRow p d room) same f (m .period) (by-day (f .reached) m)
           (λ e. (ap (λ (p : Period). sizedPeriod p d) (f .is) ∙ sized-is g (f .good) d room, sized-good g (f .good) d room (positive e))),
       tells g c (dayRow p d room) same _ (m .answer)
@@ -236,17 +219,17 @@ unfolding periodOf accept
 closed-is g room = refl
 
 abbrev closingFigures : Period → List ℕ
-closingFigures p = p .days ∷ p .highest ∷ Σ (sumsHeld p) (λ s. funded (chargeBy p s)) ∷ []
+closingFigures p = p .accrued .days ∷ p .accrued .highest ∷ Σ (sumsHeld p) (λ s. funded (chargeBy p s)) ∷ []
 
 closing-says : (g : Register) → Good g → (room : ℕ) → closingFigures (periodOf g) ≡ returned (accept g (Call.closing room)) (Call.closing room)
 unfolding periodOf accept returned
 closing-says g q room =
-    ap (λ (funds : ℕ). length (g .days) ∷ highest (g .held) (g .days) ∷ funds ∷ []) (is-total-funded (g .held) (g .days) (periodOf g .sums) (sums-are g q))
+    ap (λ (funds : ℕ). length (g .days) ∷ highest (g .held) (g .days) ∷ funds ∷ []) (is-total-funded (g .held) (g .days) (periodOf g .accrued .sums) (sums-are g q))
 
 closing-writes : (g : Register) → Good g → (room : ℕ)
     → flatMap (λ s. three (chargeBy (periodOf g) s)) (sumsHeld (periodOf g)) ≡ written (accept g (Call.closing room)) (Call.closing room)
 unfolding periodOf accept written
-closing-writes g q room = are-contributions (g .held) (g .days) (periodOf g .sums) (sums-are g q)
+closing-writes g q room = are-contributions (g .held) (g .days) (periodOf g .accrued .sums) (sums-are g q)
 
 pub closing-follows : {g : Register} {p : Period} {before : List ℕ} {r : Reply} {after : List ℕ} → Follows g p → ClosingMeets p before r after
     → Follows (step g (Call.closing (length before))) (r .period)

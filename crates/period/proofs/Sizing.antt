@@ -1,139 +1,169 @@
--- A day that no row before 7 refuses: what its figures ask for holds, and what the program found makes the reply and the buffer.
-use mathlib.Core.Path.{_≡_, refl, ap, _∙_}
-use mathlib.Core.Bool.{Bool, true, false, cond}
-use mathlib.Core.List.{List, map, flatMap}
+-- A day that no row before 7 refuses: what its figures ask for holds, and what the program found and wrote is the day's.
+use mathlib.Core.Path.{_≡_, refl, sym, ap, _∙_}
+use mathlib.Core.Bool.{Bool, true, false, not, cond}
+use mathlib.Core.List.{List, flatMap}
 use Prim.Native.Nat.{ℕ, _+_, _*_, _≤_, _<_}
 use native.Mathlib.Nat.{add-comm}
 use native.Mathlib.Omega.{arith}
-use lib.Dec.{ltb}
+use lib.Dec.{ltb, eqb}
+use lib.IntN.{ℤ}
 use lib.ListN.{length, getD, take}
 use lib.Seq.{getD-take}
-use borrow.Author.Tests.{ltb-true}
+use borrow.Author.Tests.{ltb-true, lt-ltb, eqb-true, eqb-false, not-false}
 use Rattle.numbers.specs.Lists.{range}
-use Rattle.numbers.proofs.Lists.{_∈_, by-index, first-before, table-length, map-eq}
-use Rattle.methodology.specs.declared.Refusal.the-variants.{Clear, Row, RowAt}
-use Rattle.methodology.specs.Account.{DayInput, Account, accounts}
+use Rattle.numbers.proofs.Lists.{_∈_, by-index, first-before, map-eq, range-mem}
+use Rattle.methodology.specs.declared.DayTerms.{DayTerms}
+use Rattle.methodology.specs.declared.Refusal.the-variants.{Clear}
+use Rattle.methodology.specs.Account.{DayInput, Account}
 use Rattle.methodology.specs.Member.{loss}
 use Rattle.methodology.specs.Day.{total, maxEul, scale, share, five, dailies}
-use Rattle.methodology.specs.Refusals.{badInput, badAmount}
+use Rattle.methodology.specs.Refusals.{isOpen, badOutput, badAmount, dayRows}
+use Rattle.methodology.proofs.Passed.{passed, passed-rows}
 use Rattle.quotient.specs.Ranges.{Loss, greatestTotal}
-use Rattle.validation.specs.Slices.{Lent, none}
+use Rattle.quotient.proofs.Bounds.{share-le}
+use Rattle.validation.specs.Slices.{plainDay, Even, Lent, none}
+use Rattle.validation.specs.Passing.{Sized, Passes}
+use Rattle.validation.proofs.Headings.{headings-length}
 use Rattle.validation.proofs.OpeningPasses.{opening-leaves}
-use Rattle.validation.proofs.DayPasses.{lengths-leave, sized, accounts-members}
-use Rattle.exposure.specs.declared.day.Losses.{Losses}
+use Rattle.validation.proofs.DayPasses.{sized, passes, accounts-long, accounts-lent, accounts-members}
+use Rattle.exposure.specs.declared.day.Figures.{Figures}
 use Rattle.exposure.specs.Cut.{Owners}
-use Rattle.exposure.specs.DayFigures.{Sizable, LossesAre}
+use Rattle.exposure.specs.DayFigures.{Sizable, Grouped, FiguresAre}
 use Rattle.exposure.proofs.Bounds.{total-small}
+use Rattle.exposure.proofs.MaxTotal.{loss-le-total}
 use Rattle.exposure.proofs.Members.{owners}
 use Rattle.exposure.proofs.Admitted.{admitted, groups-few}
-use Rattle.exposure.proofs.Found as figures
-use Rattle.fund.specs.Shares.{withShares}
-use Rattle.fund.proofs.Dailies.{are-dailies}
+use Rattle.exposure.proofs.Found as found
+use Rattle.fund.specs.Shares.{shareIn}
+use Rattle.fund.proofs.Dailies.{are-dailies, share-written}
 use Rattle.period.specs.declared.Period.{Period}
-use Rattle.period.specs.declared.Outcome.the-variants as says
-use Rattle.period.specs.Reading.{brought}
-use Rattle.period.specs.Plain.{PlainDay, dayOf, Even, withDay}
-use Rattle.period.specs.Calls.{held, accountsBrought, dayRow, shareAt, sizedPeriod, DayMeets}
-use Rattle.period.specs.Rows.{Passes}
-use Rattle.period.proofs.Ranges.{Ranged, ranged}
-use Rattle.period.proofs.DayRows.{lent}
+use Rattle.period.specs.Calls.{held, statusOf, accountsBrought, dayRow, shareAt, withAccrued, sizedPeriod}
+use Rattle.period.specs.Plain.{beforeFigures, withDay}
+use Rattle.period.proofs.Ranges.{Ranged, ranged, open-in-range}
+use Rattle.period.proofs.ByFields.{by-fields}
+use Rattle.period.proofs.Replies.{split-off}
 
--- a day has as many accounts as headings
-pub accounts-long : (k : ℕ) (d : DayInput) → length (accounts k d) ≡ length (d .headings)
-unfolding accounts
-accounts-long k d = table-length _ 0 (length (d .headings))
-
--- what any such day has
-module _ {p : Period} {d : DayInput} {room : ℕ} (s : Passes p d room) where
+pub record Admits (p : Period) (d : DayInput) (room : ℕ) : Type 0 where
   pub in-range : Ranged p
-  in-range = ranged p (s .in-range)
+  pub room-long : room ≡ 5 * p .held .n
+  pub rows : Passes (held p) (p .accrued .last) d
 
-  pub members-few : p .n ≤ 32
-  members-few = opening-leaves (held p) (in-range .opened) .members-few
+pub admits : (p : Period) (d : DayInput) (room : ℕ) → beforeFigures p d room ≡ Clear → Admits p d room
+unfolding beforeFigures
+admits p d room e =
+    let (o, r₁) = passed 2 (not (isOpen (statusOf p))) _ e in
+    let (l, r₂) = passed 4 (badOutput (held p) room) _ r₁ in
+    record {
+      in-range = ranged p (open-in-range p (not-false _ o));
+      room-long = eqb-true room _ (not-false _ l);
+      rows = passes (held p) (p .accrued .last) d r₂;
+    }
 
-  pub room-long : room ≡ 5 * p .n
-  room-long = lengths-leave (held p) d room (s .lengths) .1
+-- a day that no row refuses
+pub passes-all : (p : Period) (d : DayInput) (room : ℕ) → dayRow p d room ≡ Clear → Admits p d room × (0 < total (held p) (accountsBrought p d))
+passes-all p d room e =
+    let (r, s) = passed-rows (beforeFigures p d room) _ (sym (split-off p d room) ∙ e) in
+    let (z, _) = passed 7 (eqb (total (held p) (accountsBrought p d)) 0) Clear s in
+    let positive = eqb-false (total (held p) (accountsBrought p d)) 0 z in
+    (admits p d room r, omega arith)
 
-  pub input-good : badInput (held p) d ≡ false
-  input-good = lengths-leave (held p) d room (s .lengths) .0
+-- what any day has that is admitted
+module _ {p : Period} {d : DayInput} {room : ℕ} (s : Admits p d room) where
+  pub members-few : p .held .n ≤ 32
+  members-few = opening-leaves (held p) (s .in-range .opened) .members-few
 
-  pub groups-fit : (i : ℕ) → i < p .n → getD (p .groups) i 0 ≤ 32
-  groups-fit i h =
-      let few = groups-few (held p) (in-range .opened) i (omega (arith, opening-leaves (held p) (in-range .opened) .groups-long)) in
-      rw (getD-take {A = ℕ} (p .n) (p .groups) i 0 h) at few
+  pub grouped : Grouped (p .held)
+  grouped =
+      record {
+        few =
+            λ i h.
+            let long = opening-leaves (held p) (s .in-range .opened) .groups-long in
+            rw (getD-take {A = ℕ} (p .held .n) (p .held .groups) i 0 h) at (groups-few (held p) (s .in-range .opened) i (omega arith));
+      }
 
-  pub sums-fit : (i : ℕ) → getD (p .sums) i 0 ≤ 31 * scale
-  sums-fit i = let r = in-range in omega (arith, r .sums i, r .counted, r .month)
+  pub sums-fit : (i : ℕ) → getD (p .accrued .sums) i 0 ≤ 31 * scale
+  sums-fit i = let r = s .in-range in omega (arith, r .sums i, r .counted, r .month)
 
   good-amount : (a : Account) → a ∈ accountsBrought p d → badAmount a ≡ false
   good-amount =
-      by-index (λ a. badAmount a ≡ false) (accountsBrought p d) none (λ i h. first-before badAmount (accountsBrought p d) i none (omega (arith, s .amounts, accounts-long (p .k) d)))
+      by-index (λ a. badAmount a ≡ false) (accountsBrought p d) none (λ i h. first-before badAmount (accountsBrought p d) i none (omega (arith, s .rows .amounts, accounts-long (p .held .k) d)))
 
   pub total-few : total (held p) (accountsBrought p d) ≤ greatestTotal
   total-few =
-      omega (arith, total-small (accountsBrought p d) good-amount (omega (arith, accounts-long (p .k) d, sized (held p) d input-good .few)) (held p))
+      omega (arith, total-small (accountsBrought p d) good-amount (omega (arith, accounts-long (p .held .k) d, sized (held p) d (s .rows .input) .few)) (held p))
 
--- what the figures ask of one in slices
-module _ {p : Period} {c : PlainDay} {room : ℕ} (even : Even (c .members) (c .numbers) (c .kinds)) (s : Passes p (dayOf c) room) where
+-- a share of the whole is at most 10^12
+module _ (p : Period) (d : DayInput) (positive : 0 < total (held p) (accountsBrought p d)) where
+  pub share-few : (i : ℕ) → shareAt p d i ≤ scale
+  unfolding share
+  share-few i = by (ltb i (p .held .n)) refl
+    where
+      by : (t : Bool) → ltb i (p .held .n) ≡ t → cond t (share (loss (p .held .k) (accountsBrought p d) (i + 1)) (total (held p) (accountsBrought p d))) 0 ≤ scale
+      by true q =
+          let here : i < p .held .n = ltb-true i (p .held .n) q in
+          share-le scale _ _ positive (loss-le-total (held p) (accountsBrought p d) {m = i + 1} (range-mem 1 (p .held .n) (omega arith) (omega arith)))
+      by false q = omega arith
+
+-- the shares of a day, in what it wrote
+module _ (p : Period) (d : DayInput) where
+  written-at : (i : ℕ) (t : Bool) → ltb i (p .held .n) ≡ t
+      → cond t (shareIn (dailies (held p) (accountsBrought p d)) i) 0 ≡ cond t (share (loss (p .held .k) (accountsBrought p d) (i + 1)) (total (held p) (accountsBrought p d))) 0
+  written-at i true q =
+      share-written (held p) (accountsBrought p d) i (ltb-true i (p .held .n) q)
+      ∙ ap (λ (m : ℕ). share (loss (p .held .k) (accountsBrought p d) m) (total (held p) (accountsBrought p d))) (add-comm 1 i)
+  written-at i false q = refl
+
+  share-at : (i : ℕ) → cond (ltb i (p .held .n)) (shareIn (dailies (held p) (accountsBrought p d)) i) 0 ≡ shareAt p d i
+  share-at i = written-at i (ltb i (p .held .n)) refl
+
+  pub shares-few : 0 < total (held p) (accountsBrought p d) → (i : ℕ) → i < p .held .n → shareIn (dailies (held p) (accountsBrought p d)) i ≤ scale
+  shares-few positive i h = rw (sym (share-at i), lt-ltb i (p .held .n) h) at (share-few p d positive i)
+
+  -- so the period that takes them in is the one that the accounts give
+  pub taken-in : (top : ℕ) → top ≡ maxEul (held p) (accountsBrought p d) → (out : List ℕ) → out ≡ dailies (held p) (accountsBrought p d) → withDay p (d .terms) top out ≡ sizedPeriod p d
+  taken-in top e out w =
+      rw (e, w) (ap (withAccrued p) (by-fields refl refl refl (map-eq _ _ (range 0 32) (λ i m. ap (λ (x : ℕ). getD (p .accrued .sums) i 0 + x) (share-at i)))))
+
+-- what the figures ask of a day in slices
+module _ {p : Period} {terms : DayTerms} {members numbers kinds : List ℕ} {npvs : List ℤ} {margins extras : List ℕ} {room : ℕ}
+    (even : Even members numbers kinds) (s : Admits p (plainDay terms members numbers kinds npvs margins extras) room) where
+  abbrev day : DayInput
+  day = plainDay terms members numbers kinds npvs margins extras
+
   abbrev accts : List Account
-  accts = accountsBrought p (dayOf c)
+  accts = accountsBrought p day
 
-  slices : Lent (p .k) (c .kinds) (c .npvs) (c .margins) (c .extras) accts
-  slices = lent p c room (even .kinds-long) (s .lengths)
+  slices : Lent (p .held .k) kinds npvs margins extras accts
+  slices =
+      let z = sized (held p) day (s .rows .input) in
+      let n = headings-length members numbers kinds in
+      accounts-lent (p .held .k) terms members numbers kinds npvs margins extras (even .kinds-long) (rw n at (z .npvs-long)) (z .margins-long ∙ n) (z .extras-long ∙ n)
 
-  own : Owners (c .members) accts
-  own = rw (accounts-members (p .k) (c .number) (c .members) (c .numbers) (c .kinds) (c .npvs) (c .margins) (c .extras)) at (owners accts)
+  own : Owners members accts
+  own = rw (accounts-members (p .held .k) terms members numbers kinds npvs margins extras) at (owners accts)
 
-  pub sizable : Sizable (p .n) (p .k) (c .members) (c .kinds) (c .npvs) (c .margins) (c .extras)
+  pub sizable : Sizable (p .held .n) (p .held .k) members kinds npvs margins extras
   sizable =
-      admitted (held p) (in-range s .opened) (c .number) (c .members) (c .numbers) (c .kinds) (c .npvs) (c .margins) (c .extras) (even .kinds-long) (input-good s) (s .headings) (s .amounts)
+      admitted (held p) (s .in-range .opened) terms members numbers kinds npvs margins extras (even .kinds-long) (s .rows .input) (s .rows .headings) (s .rows .amounts)
 
   -- what the program found
-  module _ (r : Losses) (found : LossesAre (p .n) (p .k) (c .members) (c .kinds) (c .npvs) (c .margins) (c .extras) r) where
-    pub total-is : r .total ≡ total (held p) accts
-    total-is = figures.total-is (held p) accts slices own r found
+  module _ (r : Figures) (are : FiguresAre (p .held) members kinds npvs margins extras r) where
+    pub total-is : r .losses .total ≡ total (held p) accts
+    total-is = found.total-is (held p) accts slices own (r .losses) (are .losses)
 
-    pub part : (r .total ≡ 0 → ⊥) → (i : ℕ) → i < p .n → Loss (getD (r .each) i 0) (r .total)
+    pub top-is : r .top ≡ maxEul (held p) accts
+    top-is = are .top .is accts slices own
+
+    pub top-few : r .top ≤ greatestTotal
+    top-few = omega (arith, found.top-part (held p) accts slices own (r .losses) (are .losses) (r .top) top-is, total-is, total-few s)
+
+    pub part : ¬ (r .losses .total ≡ 0) → (i : ℕ) → i < p .held .n → Loss (getD (r .losses .each) i 0) (r .losses .total)
     part h i l =
         record {
           positive = omega arith;
-          part = figures.loss-part (held p) accts slices own r found i l;
+          part = found.loss-part (held p) accts slices own (r .losses) (are .losses) i l;
           bounded = omega (arith, total-is, total-few s);
         }
 
-    pub shares :
-        withShares (p .sums) (r .each) (p .n) (r .total)
-        ≡ map (λ i. getD (p .sums) i 0 + shareAt p (dayOf c) i) (range 0 32)
-    shares = map-eq _ _ (range 0 32) (λ i m. ap (λ (x : ℕ). getD (p .sums) i 0 + x) (by i (ltb i (p .n)) refl))
-      where
-        by : (i : ℕ) (t : Bool) → ltb i (p .n) ≡ t → cond t (share (getD (r .each) i 0) (r .total)) 0 ≡ cond t (share (loss (p .k) accts (i + 1)) (total (held p) accts)) 0
-        by i true q =
-            let at : getD (r .each) i 0 ≡ loss (p .k) accts (i + 1) = figures.loss-at (held p) accts slices own r found i (ltb-true i (p .n) q) ∙ ap (loss (p .k) accts) (add-comm 1 i) in
-            rw (at, total-is)
-        by i false q = refl
-
-    module _ (top : ℕ) (is : (accts : List Account) → Lent (p .k) (c .kinds) (c .npvs) (c .margins) (c .extras) accts → Owners (c .members) accts → top ≡ maxEul (brought (p .n) (p .k) (take (p .n) (p .groups))) accts) where
-      pub top-is : top ≡ maxEul (held p) accts
-      top-is = is accts slices own
-
-      pub top-few : top ≤ greatestTotal
-      top-few = omega (arith, figures.top-part (held p) accts slices own r found top top-is, total-is, total-few s)
-
-      pub written : flatMap (λ e. five e top (r .total)) (take (p .n) (r .each)) ≡ dailies (held p) accts
-      written = rw (top-is, total-is) (are-dailies (held p) accts (r .each) (found .each accts slices own))
-
--- what the call says and leaves, by what the refusal table says
-module _ (p : Period) (d : DayInput) (out : List ℕ) where
-  pub day-refused : (number : ℕ) → dayRow p d (length out) ≡ Row number → DayMeets p d out (record { period = p; outcome = says.Refused number }) out
-  day-refused number e = record { answer = rw e; period = rw e; buffer = rw e }
-
-  pub day-refused-at : (number index : ℕ) → dayRow p d (length out) ≡ RowAt number index → DayMeets p d out (record { period = p; outcome = says.RefusedAt number index }) out
-  day-refused-at number index e = record { answer = rw e; period = rw e; buffer = rw e }
-
-  pub day-accepted : dayRow p d (length out) ≡ Clear
-      → (t top : ℕ) (losses after : List ℕ) (next : Period)
-      → t ≡ total (held p) (accountsBrought p d) → top ≡ maxEul (held p) (accountsBrought p d)
-      → withDay p (d .number) losses t top .sums ≡ sizedPeriod p d .sums → next ≡ withDay p (d .number) losses t top
-      → after ≡ dailies (held p) (accountsBrought p d)
-      → DayMeets p d out (record { period = next; outcome = says.Sized t top }) after
-  day-accepted e t top losses after next a b q h w = record { answer = rw (e, a, b); period = rw (e, h, q, b); buffer = rw (e, w) }
+    pub written : flatMap (λ e. five e (r .top) (r .losses .total)) (take (p .held .n) (r .losses .each)) ≡ dailies (held p) accts
+    written = rw (top-is, total-is) (are-dailies (held p) accts (r .losses .each) (are .losses .each accts slices own))

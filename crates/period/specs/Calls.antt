@@ -12,34 +12,45 @@ use Rattle.methodology.specs.declared.Status.{Status}
 use Rattle.methodology.specs.declared.Status.the-variants.{Fresh, Open, Closed}
 use Rattle.methodology.specs.declared.Refusal.{Refusal}
 use Rattle.methodology.specs.declared.Opening.{Opening}
-use Rattle.methodology.specs.Account.{DayInput, Account, accounts}
+use Rattle.methodology.specs.declared.DayTerms.{DayTerms}
+use Rattle.methodology.specs.Account.{withGroups, noOpening, DayInput, Account, accounts}
 use Rattle.methodology.specs.Member.{loss}
 use Rattle.methodology.specs.Day.{total, maxEul, scale, share, dailies}
 use Rattle.methodology.specs.Contribution.{charge, funded, three}
 use Rattle.methodology.specs.Refusals.{badOpening, openingRefusal, dayRefusal, closingRefusal}
 use Rattle.methodology.specs.Register.{ifAccepted, answerBy}
 use Rattle.quotient.specs.Ranges.{greatestTotal}
+use Rattle.validation.specs.Slices.{inPlaces, listed}
+use Rattle.period.specs.declared.Accrued.{Accrued}
 use Rattle.period.specs.declared.Period.{Period}
 use Rattle.period.specs.declared.Reply.{Reply}
 use Rattle.period.specs.Reading.{answerOf}
 
+-- a period with this opening and no day: "M, D, the last accepted day number and all sums 0"
+abbrev pub begunPeriod : Status → Opening → Period
+begunPeriod status o =
+    record { status = status; held = o; accrued = record { last = 0; days = 0; highest = 0; sums = replicate 32 0 } }
+
 abbrev pub freshPeriod : Period
-freshPeriod =
-    record { status = Fresh; n = 0; k = 0; groups = replicate 32 0; last = 0; days = 0; highest = 0; sums = replicate 32 0 }
+freshPeriod = begunPeriod Fresh (withGroups noOpening (replicate 32 0))
+
+-- the same period, with what its days come to
+abbrev pub withAccrued : Period → Accrued → Period
+withAccrued p a = record { status = p .status; held = p .held; accrued = a }
 
 -- the opening that a period holds
 abbrev pub held : Period → Opening
-held p = record { n = p .n; k = p .k; groups = take (p .n) (p .groups) }
+held p = listed (p .held)
 
 -- Whether a period's fields are in the ranges of an open one: the last accepted day number at most 31, D at most that (day numbers rise
 -- from 1), M at most the greatest T that a day can have, an opening that row 1 lets pass, each sum at most D shares of the whole.
 unfoldable pub inRange : Period → Bool
 inRange p =
-    leb (p .last) 31
-    && leb (p .days) (p .last)
-    && leb (p .highest) greatestTotal
+    leb (p .accrued .last) 31
+    && leb (p .accrued .days) (p .accrued .last)
+    && leb (p .accrued .highest) greatestTotal
     && not (badOpening (held p))
-    && not (any (ltb (p .days * scale)) (p .sums))
+    && not (any (ltb (p .accrued .days * scale)) (p .accrued .sums))
 
 -- The status that counts. A period that is out of range counts as closed, and so does a fresh one (its n is 0), which no row tells from a
 -- closed one. No open period that calls returned is out of range: `status-counts` in proofs/Reach.antt.
@@ -54,17 +65,7 @@ openingRow p o = openingRefusal (statusOf p) o
 
 -- the period after an accepted opening: "with M, D, the last accepted day number and all sums 0"
 abbrev pub openedPeriod : Opening → Period
-openedPeriod o =
-    record {
-      status = Open;
-      n = o .n;
-      k = o .k;
-      groups = map (λ i. getD (o .groups) i 0) (range 0 32);
-      last = 0;
-      days = 0;
-      highest = 0;
-      sums = replicate 32 0;
-    }
+openedPeriod o = begunPeriod Open (inPlaces o)
 
 pub record OpeningMeets (p : Period) (o : Opening) (r : Reply) : Type 0 where
   pub answer : answerOf (r .outcome) ≡ answerBy (openingRow p o) []
@@ -74,30 +75,30 @@ pub record OpeningMeets (p : Period) (o : Opening) (r : Reply) : Type 0 where
 
 -- the accounts of a day that a call brings
 abbrev pub accountsBrought : Period → DayInput → List Account
-accountsBrought p d = accounts (p .k) d
+accountsBrought p d = accounts (p .held .k) d
 
 unfoldable pub dayRow : Period → DayInput → (room : ℕ) → Refusal
-dayRow p d room = dayRefusal (statusOf p) (held p) (p .last) d room
+dayRow p d room = dayRefusal (statusOf p) (held p) (p .accrued .last) d room
 
 -- what an accepted day adds to the sum in place i: member i + 1's share
 abbrev pub shareAt : Period → DayInput → (i : ℕ) → ℕ
 shareAt p d i =
     let accts = accountsBrought p d in
-    cond (ltb i (p .n)) (share (loss (p .k) accts (i + 1)) (total (held p) accts)) 0
+    cond (ltb i (p .held .n)) (share (loss (p .held .k) accts (i + 1)) (total (held p) accts)) 0
 
--- the period after it: M, D, the last accepted day number and the sums take the day in
-abbrev pub sizedPeriod : Period → DayInput → Period
-sizedPeriod p d =
+-- what a period's days come to with one more: the last accepted day number, D, M and the sums take it in
+abbrev pub takenIn : Accrued → DayTerms → (top : ℕ) → (share : (i : ℕ) → ℕ) → Accrued
+takenIn a terms top share =
     record {
-      status = p .status;
-      n = p .n;
-      k = p .k;
-      groups = p .groups;
-      last = d .number;
-      days = p .days + 1;
-      highest = max (p .highest) (maxEul (held p) (accountsBrought p d));
-      sums = map (λ i. getD (p .sums) i 0 + shareAt p d i) (range 0 32);
+      last = terms .number;
+      days = a .days + 1;
+      highest = max (a .highest) top;
+      sums = map (λ i. getD (a .sums) i 0 + share i) (range 0 32);
     }
+
+-- the period after it
+abbrev pub sizedPeriod : Period → DayInput → Period
+sizedPeriod p d = withAccrued p (takenIn (p .accrued) (d .terms) (maxEul (held p) (accountsBrought p d)) (shareAt p d))
 
 -- A day "returns T and Max EUL" and writes "5 numbers a member". A refused one leaves the period and the buffer as before.
 pub record DayMeets (p : Period) (d : DayInput) (before : List ℕ) (r : Reply) (after : List ℕ) : Type 0 where
@@ -110,33 +111,23 @@ pub record DayMeets (p : Period) (d : DayInput) (before : List ℕ) (r : Reply) 
 -- ---- closing
 
 unfoldable pub closingRow : Period → (room : ℕ) → Refusal
-closingRow p room = closingRefusal (statusOf p) (held p) (p .days) room
+closingRow p room = closingRefusal (statusOf p) (held p) (p .accrued .days) room
 
 -- the sums of the members' shares, and the raw charge for one of them
 abbrev pub sumsHeld : Period → List ℕ
-sumsHeld p = take (p .n) (p .sums)
+sumsHeld p = take (p .held .n) (p .accrued .sums)
 
 abbrev pub chargeBy : Period → (sum : ℕ) → ℕ
-chargeBy p sum = charge (p .highest) sum (p .days)
+chargeBy p sum = charge (p .accrued .highest) sum (p .accrued .days)
 
 -- the period after an accepted closing: "closed and otherwise as before"
 abbrev pub closedPeriod : Period → Period
-closedPeriod p =
-    record {
-      status = Closed;
-      n = p .n;
-      k = p .k;
-      groups = p .groups;
-      last = p .last;
-      days = p .days;
-      highest = p .highest;
-      sums = p .sums;
-    }
+closedPeriod p = record { status = Closed; held = p .held; accrued = p .accrued }
 
 -- A closing "returns D, M and the total funded" and writes "3 a member". A refused one leaves the period and the buffer as before.
 pub record ClosingMeets (p : Period) (before : List ℕ) (r : Reply) (after : List ℕ) : Type 0 where
   pub answer :
       answerOf (r .outcome)
-      ≡ answerBy (closingRow p (length before)) (p .days ∷ p .highest ∷ Σ (sumsHeld p) (λ sum. funded (chargeBy p sum)) ∷ [])
+      ≡ answerBy (closingRow p (length before)) (p .accrued .days ∷ p .accrued .highest ∷ Σ (sumsHeld p) (λ sum. funded (chargeBy p sum)) ∷ [])
   pub period : r .period ≡ ifAccepted (closingRow p (length before)) (closedPeriod p) p
   pub buffer : after ≡ ifAccepted (closingRow p (length before)) (flatMap (λ s. three (chargeBy p s)) (sumsHeld p)) before

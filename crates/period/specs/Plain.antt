@@ -1,47 +1,47 @@
--- A day in plain slices, as the inner functions take it, and a period with its figures taken in.
-use mathlib.Core.List.{List}
+-- What the inner functions of a call say: a refusal, the rows of a day before its figures, a day in columns, a period with a day's figures.
+use mathlib.Core.Bool.{Bool, true, false, not, cond}
+use mathlib.Core.List.{List, []}
 use mathlib.Core.Path.{_≡_}
-use Prim.Native.Nat.{ℕ, _+_, max}
+use Prim.Native.Nat.{ℕ}
+use lib.Dec.{ltb}
 use lib.IntN.{ℤ}
-use lib.ListN.{length, take, drop}
+use lib.ListN.{take, drop}
+use Rattle.methodology.specs.declared.DayTerms.{DayTerms}
+use Rattle.methodology.specs.declared.Refusal.{Refusal}
+use Rattle.methodology.specs.declared.Refusal.the-variants.{Clear, Row, RowAt}
 use Rattle.methodology.specs.Account.{DayInput}
+use Rattle.methodology.specs.Refusals.{row_when_else_, isOpen, badOutput, dayRows}
+use Rattle.methodology.specs.Register.{answerBy}
 use Rattle.validation.specs.Slices.{plainDay}
-use Rattle.fund.specs.Shares.{withShares}
+use Rattle.fund.specs.Shares.{shareIn}
 use Rattle.period.specs.declared.Period.{Period}
+use Rattle.period.specs.declared.Reply.{Reply}
+use Rattle.period.specs.Reading.{answerOf}
+use Rattle.period.specs.Calls.{held, statusOf, withAccrued, takenIn}
 
-pub record PlainDay : Type 0 where
-  pub number : ℕ
-  pub members : List ℕ
-  pub numbers : List ℕ
-  pub kinds : List ℕ
-  pub npvs : List ℤ
-  pub margins : List ℕ
-  pub extras : List ℕ
+abbrev pub isRefused : Refusal → Bool
+isRefused Clear = false
+isRefused (Row number) = true
+isRefused (RowAt number index) = true
 
-abbrev pub dayOf : PlainDay → DayInput
-dayOf c = plainDay (c .number) (c .members) (c .numbers) (c .kinds) (c .npvs) (c .margins) (c .extras)
+-- the reply to a call that meets a row: it says so, and leaves the period as it was
+pub record Refuses (p : Period) (met : Refusal) (r : Reply) : Type 0 where
+  pub answer : answerOf (r .outcome) ≡ answerBy met []
+  pub period : r .period ≡ p
 
--- the three slices of its headings are of one length
-pub record Even (members numbers kinds : List ℕ) : Type 0 where
-  pub numbers-long : length numbers ≡ length members
-  pub kinds-long : length kinds ≡ length members
+-- the refusal table's rows of a day but for row 7, which needs its figures
+unfoldable pub beforeFigures : Period → DayInput → (room : ℕ) → Refusal
+beforeFigures p d room =
+    row 2 when not (isOpen (statusOf p)) else
+    row 4 when badOutput (held p) room else
+    dayRows (held p) (p .accrued .last) d
 
 -- a day of n headings in three columns of 256 places: members, account numbers, kinds
-abbrev pub cutDay : (number n : ℕ) → (columns : List ℕ) → (npvs : List ℤ) → (margins extras : List ℕ) → DayInput
-cutDay number n columns npvs margins extras =
-    plainDay number (take n columns) (take n (drop 256 columns)) (take n (drop 512 columns)) npvs margins extras
+abbrev pub cutDay : DayTerms → (n : ℕ) → (columns : List ℕ) → (npvs : List ℤ) → (margins extras : List ℕ) → DayInput
+cutDay terms n columns npvs margins extras =
+    plainDay terms (take n columns) (take n (drop 256 columns)) (take n (drop 512 columns)) npvs margins extras
 
--- The period after a day, from what the code has found: the losses of its members in an array, their total and the day's Max EUL. That this
--- is `sizedPeriod`, which speaks of the day's accounts alone, is shown where they are found.
-abbrev pub withDay : Period → (number : ℕ) → (losses : List ℕ) → (total top : ℕ) → Period
-withDay p number losses total top =
-    record {
-      status = p .status;
-      n = p .n;
-      k = p .k;
-      groups = p .groups;
-      last = number;
-      days = p .days + 1;
-      highest = max (p .highest) top;
-      sums = withShares (p .sums) losses (p .n) total;
-    }
+-- The period after a day, from what the code has found and written: the day's Max EUL, and the shares in its buffer. That this is
+-- `sizedPeriod`, which speaks of the day's accounts alone, is shown where they are found.
+abbrev pub withDay : Period → DayTerms → (top : ℕ) → (out : List ℕ) → Period
+withDay p terms top out = withAccrued p (takenIn (p .accrued) terms top (λ i. cond (ltb i (p .held .n)) (shareIn out i) 0))

@@ -2,6 +2,7 @@
 use mathlib.Core.List.{List, [], _∷_}
 use Prim.Native.Nat.{ℕ}
 use lib.IntN.{ℤ}
+use Rattle.methodology.specs.declared.DayTerms.{DayTerms}
 use Rattle.methodology.specs.declared.Heading.{Heading}
 use Rattle.methodology.specs.declared.Opening.{Opening}
 use Rattle.methodology.specs.Account.{DayInput}
@@ -13,10 +14,10 @@ use Rattle.period.specs.declared.Outcome.the-variants.{Opened, Sized, Cl
 abbrev pub brought : (n k : ℕ) → (groups : List ℕ) → Opening
 brought n k groups = record { n = n; k = k; groups = groups }
 
--- what a day call brings: its number and its accounts
-abbrev pub dayBrought : (number : ℕ) → (headings : List Heading) → (npvs : List ℤ) → (margins extras : List ℕ) → DayInput
-dayBrought number headings npvs margins extras =
-    record { number = number; headings = headings; npvs = npvs; margins = margins; extras = extras }
+-- what a day call brings: its terms and its accounts
+abbrev pub dayBrought : DayTerms → (headings : List Heading) → (npvs : List ℤ) → (margins extras : List ℕ) → DayInput
+dayBrought terms headings npvs margins extras =
+    record { terms = terms; headings = headings; npvs = npvs; margins = margins; extras = extras }
 
 -- Document 01's answer for each case of an outcome: its number, and its values in document 01's order.
 abbrev pub answerOf : Outcome → Answer

@@ -2,36 +2,37 @@
 mod arrays;
 
 use crate::arrays::bad_held;
-use crate::arrays::max_eul;
 use crate::arrays::sums_above;
+use methodology::DayTerms;
 use methodology::Heading;
+use methodology::Opening;
 use methodology::Refusal;
 use methodology::Status;
-use validation::limits::bad_day_number;
-use validation::limits::bad_lengths;
 use validation::limits::bad_opening;
 ghost use mathlib.Core.Path.{_≡_};
 ghost use mathlib.Core.List.{List};
 ghost use lib.ListN.{length, getD, take};
 ghost use Rattle.headings.specs.Columns.{columns as columnsOf};
-ghost use Rattle.validation.specs.Slices.{plainDay};
+ghost use Rattle.validation.specs.Slices.{plainDay, Even};
+ghost use Rattle.methodology.specs.Account.{withGroups};
 ghost use Rattle.methodology.specs.Refusals.{isOpen};
 ghost use Rattle.period.specs.Reading.{brought, dayBrought};
 ghost use Prim.Native.Nat.{ℕ, _*_, _≤_, _<_};
 ghost use Rattle.methodology.specs.Day.{scale};
-ghost use Rattle.quotient.specs.Ranges.{Loss};
-ghost use Rattle.period.specs.Plain.{Even, cutDay, withDay};
-ghost use Rattle.period.specs.Calls.{freshPeriod, inRange, statusOf, openingRow, OpeningMeets, DayMeets, closingRow, ClosingMeets};
-ghost use Rattle.period.specs.Rows.{BeforeTotal};
+ghost use Rattle.fund.specs.Shares.{shareIn};
+ghost use Rattle.period.specs.Plain.{isRefused, Refuses, beforeFigures, cutDay, withDay};
+ghost use Rattle.period.specs.Calls.{begunPeriod, freshPeriod, inRange, statusOf, openingRow, OpeningMeets, DayMeets, closingRow, ClosingMeets};
 
-// What the calls of a period have left. Its fields are private: a period is a fresh one, or one that calls returned. `last` is the last
-// accepted day number, `days` is D, `highest` is M; member i + 1 has its group number and the sum of its shares in place i, and past
-// member n stands 0.
+// What the calls of a period have left. Its fields are private: a period is a fresh one, or one that calls returned.
 pub struct Period {
     status: Status,
-    n: u64,
-    k: u64,
-    groups: [u64; 32],
+    held: Opening,
+    accrued: Accrued,
+}
+
+// What the days accepted since the last accepted opening come to: `last` is the last accepted day number, `days` is D, `highest` is M, and
+// member i + 1 has the sum of its shares in place i; past member n stands 0.
+struct Accrued {
     last: u64,
     days: u64,
     highest: u64,
@@ -66,41 +67,65 @@ fn is_open(status: Status) -> bool
     }
 }
 
-impl Period {
-    pub fn fresh() -> Period
-        ensures { λ r. ⌜ r ≡ freshPeriod ⌝ }
-    {
-        Period {
-            status: Status::Fresh,
-            n: 0,
-            k: 0,
-            groups: [0; 32],
+// Whether a row is met.
+fn is_refused(row: Refusal) -> bool
+    ensures { λ r. ⌜ r ≡ isRefused row ⌝ }
+{
+    match row {
+        Refusal::Clear => false,
+        Refusal::Row(_) => true,
+        Refusal::RowAt(_, _) => true,
+    }
+}
+
+// A period with this opening and no day: "M, D, the last accepted day number and all sums 0".
+fn begun(status: Status, held: Opening) -> Period
+    ensures { λ r. ⌜ r ≡ begunPeriod status held ⌝ }
+{
+    Period {
+        status,
+        held,
+        accrued: Accrued {
             last: 0,
             days: 0,
             highest: 0,
             sums: [0; 32],
-        }
+        },
+    }
+}
+
+impl Period {
+    pub fn fresh() -> Period
+        ensures { λ r. ⌜ r ≡ freshPeriod ⌝ }
+    {
+        let none = Opening {
+            n: 0,
+            k: 0,
+            groups: [0; 32],
+        };
+        begun(Status::Fresh, none)
     }
 
     // Whether every field is in the range of an open period.
     fn in_range(self) -> bool
         ensures { λ r. ⌜ r ≡ inRange self ⌝ }
     {
-        if self.last > 31 {
+        let accrued = self.accrued;
+        if accrued.last > 31 {
             return false;
         }
-        if self.days > self.last {
+        if accrued.days > accrued.last {
             return false;
         }
-        if self.highest > GREATEST_TOTAL {
+        if accrued.highest > GREATEST_TOTAL {
             return false;
         }
-        let groups = self.groups;
-        if bad_held(self.n, self.k, groups) {
+        let held = self.held;
+        if bad_held(held) {
             return false;
         }
-        let sums = self.sums;
-        !sums_above(self.days * quotient::SCALE, sums)
+        let sums = accrued.sums;
+        !sums_above(accrued.days * quotient::SCALE, sums)
     }
 
     // The status that counts: a period that is out of range counts as not open. No calls from a fresh one lead to an open one that is.
@@ -114,15 +139,35 @@ impl Period {
         Status::Closed
     }
 
-    // The refusal table's rows of an opening, in their order: 2, 1.
-    fn opening_row(self, n: u64, k: u64, groups: &[u64]) -> Refusal
-        ensures { λ r. ⌜ r ≡ openingRow self (brought n k (now (groups .entry))) ⌝ }
+    // The reply to a call that meets a row: its number, with its index if it has one, and the period as it was.
+    fn refused(mut self, row: Refusal) -> Reply
+        ensures { λ r. ⌜ Refuses self row r ⌝ }
+    {
+        match row {
+            Refusal::Clear => Reply {
+                period: self,
+                outcome: Outcome::Opened, // no row is met: never asked for
+            },
+            Refusal::Row(number) => Reply {
+                period: self,
+                outcome: Outcome::Refused(number),
+            },
+            Refusal::RowAt(number, index) => Reply {
+                period: self,
+                outcome: Outcome::RefusedAt(number, index),
+            },
+        }
+    }
+
+    // The refusal table's rows of an opening with these groups, in their order: 2, 1.
+    fn opening_row(self, opening: Opening, groups: &[u64]) -> Refusal
+        ensures { λ r. ⌜ r ≡ openingRow self (withGroups opening (now (groups .entry))) ⌝ }
     {
         let status = self.status_of();
         if is_open(status) {
             return Refusal::Row(2);
         }
-        if bad_opening(n, k, groups) {
+        if bad_opening(opening, groups) {
             return Refusal::Row(1);
         }
         Refusal::Clear
@@ -132,40 +177,30 @@ impl Period {
     pub fn opening(mut self, n: u64, k: u64, groups: &[u64]) -> Reply
         ensures { λ r. ⌜ OpeningMeets self (brought n k (now (groups .entry))) r ⌝ }
     {
-        let row = self.opening_row(n, k, groups);
-        match row {
-            Refusal::Clear => {
-                let groups = numbers::padded(groups);
-                let period = Period {
-                    status: Status::Open,
-                    n,
-                    k,
-                    groups,
-                    last: 0,
-                    days: 0,
-                    highest: 0,
-                    sums: [0; 32],
-                };
-                Reply {
-                    period,
-                    outcome: Outcome::Opened,
-                }
-            }
-            Refusal::Row(refused) => Reply {
-                period: self,
-                outcome: Outcome::Refused(refused),
-            },
-            Refusal::RowAt(refused, index) => Reply {
-                period: self,
-                outcome: Outcome::RefusedAt(refused, index),
-            },
+        let opening = Opening {
+            n,
+            k,
+            groups: [0; 32],
+        };
+        let row = self.opening_row(opening, groups);
+        if is_refused(row) {
+            return self.refused(row);
+        }
+        let all = numbers::padded(groups);
+        let held = Opening {
+            groups: all,
+            ..opening
+        };
+        Reply {
+            period: begun(Status::Open, held),
+            outcome: Outcome::Opened,
         }
     }
 
     // The refusal table's rows of a day that come before its figures, in their order: 2, 4, 3, 5, 6.
     fn day_row(
         self,
-        number: u64,
+        terms: DayTerms,
         members: &[u64],
         numbers: &[u64],
         kinds: &[u64],
@@ -175,63 +210,55 @@ impl Period {
         room: usize,
     ) -> Refusal
         requires { ⌜ Even (now members) (now numbers) (now kinds) ⌝ }
-        ensures { λ r. ⌜ BeforeTotal self (plainDay number (now (members .entry)) (now (numbers .entry)) (now (kinds .entry)) (now (npvs .entry)) (now (margins .entry)) (now (extras .entry))) room r ⌝ }
+        ensures { λ r. ⌜ r ≡ beforeFigures self (plainDay terms (now (members .entry)) (now (numbers .entry)) (now (kinds .entry)) (now (npvs .entry)) (now (margins .entry)) (now (extras .entry))) room ⌝ }
     {
-        let n = self.n;
-        let k = self.k;
-        let last = self.last;
-        let count = members.len();
         let status = self.status_of();
         if !is_open(status) {
             return Refusal::Row(2);
         }
-        let bad4 = bad_lengths(n, k, count, npvs.len(), margins.len(), extras.len(), room);
-        let bad3 = bad_day_number(last, number);
-        if bad4 {
-            return Refusal::Row(4); // before row 3
+        let held = self.held;
+        if room as u64 != 5 * held.n {
+            return Refusal::Row(4);
         }
-        if bad3 {
-            return Refusal::Row(3);
-        }
-        let bad5 = validation::first_bad_heading(members, numbers, kinds, n);
-        if bad5 < count {
-            return Refusal::RowAt(5, bad5 as u64);
-        }
-        if validation::last_missing(members, n) {
-            return Refusal::RowAt(5, count as u64);
-        }
-        let bad6 = validation::first_bad_amount(npvs, margins, extras, k as usize);
-        if bad6 < count {
-            return Refusal::RowAt(6, bad6 as u64);
-        }
-        Refusal::Clear
+        let last = self.accrued.last;
+        validation::day_rows(
+            held,
+            last,
+            terms,
+            members,
+            numbers,
+            kinds,
+            npvs,
+            margins,
+            extras,
+        )
     }
 
-    // The period with an accepted day taken in: the last accepted day number, D, M and the sums.
-    fn with_day(mut self, number: u64, losses: [u64; 32], total: u64, top: u64) -> Period
-        requires { ⌜ (self .n ≤ 32) × (self .days ≤ 31) ⌝ }
-        requires { ⌜ ((i : ℕ) → i < self .n → Loss (getD losses i 0) total) ⌝ }
-        requires { ⌜ ((i : ℕ) → getD (self .sums) i 0 ≤ 31 * scale) ⌝ }
-        ensures { λ r. ⌜ r ≡ withDay self number losses total top ⌝ }
+    // The period with an accepted day taken in: its number, its Max EUL, and the shares that stand in what it wrote.
+    fn with_day(mut self, terms: DayTerms, top: u64, out: &[u64]) -> Period
+        requires { ⌜ (self .held .n ≤ 32) × (self .accrued .days ≤ 31) × (length (now out) ≡ 5 * self .held .n) ⌝ }
+        requires { ⌜ ((i : ℕ) → i < self .held .n → shareIn (now out) i ≤ scale) ⌝ }
+        requires { ⌜ ((i : ℕ) → getD (self .accrued .sums) i 0 ≤ 31 * scale) ⌝ }
+        ensures { λ r. ⌜ r ≡ withDay self terms top (now (out .entry)) ⌝ }
     {
-        let n = self.n as usize;
-        let old = self.sums;
-        let sums = fund::with_shares(old, losses, n, total);
-        let highest = numbers::greater(self.highest, top);
-        let days = self.days + 1;
-        Period {
-            last: number,
-            days,
+        let n = self.held.n as usize;
+        let old = self.accrued;
+        let shares = old.sums;
+        let sums = fund::with_shares(shares, n, out);
+        let highest = numbers::greater(old.highest, top);
+        let accrued = Accrued {
+            last: terms.number,
+            days: old.days + 1,
             highest,
             sums,
-            ..self
-        }
+        };
+        Period { accrued, ..self }
     }
 
     // A day whose headings come in three slices of one length: members, account numbers, kinds.
     fn plain_day(
         mut self,
-        number: u64,
+        terms: DayTerms,
         members: &[u64],
         numbers: &[u64],
         kinds: &[u64],
@@ -241,10 +268,10 @@ impl Period {
         out: &mut [u64],
     ) -> Reply
         requires { ⌜ Even (now members) (now numbers) (now kinds) ⌝ }
-        ensures { λ r. ⌜ DayMeets self (plainDay number (now (members .entry)) (now (numbers .entry)) (now (kinds .entry)) (now (npvs .entry)) (now (margins .entry)) (now (extras .entry))) (now (out .entry)) r (now (out .exit)) ⌝ }
+        ensures { λ r. ⌜ DayMeets self (plainDay terms (now (members .entry)) (now (numbers .entry)) (now (kinds .entry)) (now (npvs .entry)) (now (margins .entry)) (now (extras .entry))) (now (out .entry)) r (now (out .exit)) ⌝ }
     {
         let row = self.day_row(
-            number,
+            terms,
             members,
             numbers,
             kinds,
@@ -253,51 +280,30 @@ impl Period {
             extras,
             out.len(),
         );
-        match row {
-            Refusal::Clear => {
-                let n = self.n as usize;
-                let k = self.k as usize;
-                let found = exposure::day::member_losses(
-                    members,
-                    kinds,
-                    npvs,
-                    margins,
-                    extras,
-                    n,
-                    k,
-                );
-                let total = found.total;
-                if total == 0 {
-                    return Reply {
-                        period: self,
-                        outcome: Outcome::Refused(7),
-                    };
-                }
-                let groups = self.groups;
-                let top = max_eul(groups, n, members, kinds, npvs, margins, extras, k);
-                let each = found.each;
-                fund::write_dailies(each, n, top, total, out);
-                let period = self.with_day(number, each, total, top);
-                Reply {
-                    period,
-                    outcome: Outcome::Sized(total, top),
-                }
-            }
-            Refusal::Row(refused) => Reply {
-                period: self,
-                outcome: Outcome::Refused(refused),
-            },
-            Refusal::RowAt(refused, index) => Reply {
-                period: self,
-                outcome: Outcome::RefusedAt(refused, index),
-            },
+        if is_refused(row) {
+            return self.refused(row);
+        }
+        let held = self.held;
+        let figures = exposure::day::day_figures(held, members, kinds, npvs, margins, extras);
+        let losses = figures.losses;
+        let total = losses.total;
+        if total == 0 {
+            return self.refused(Refusal::Row(7));
+        }
+        let top = figures.top;
+        let each = losses.each;
+        fund::write_dailies(each, held.n as usize, top, total, out);
+        let period = self.with_day(terms, top, out);
+        Reply {
+            period,
+            outcome: Outcome::Sized(total, top),
         }
     }
 
     // A day of n headings whose fields stand in three columns of 256 places.
     fn cut_day(
         mut self,
-        number: u64,
+        terms: DayTerms,
         n: usize,
         columns: &[u64],
         npvs: &[i64],
@@ -306,10 +312,10 @@ impl Period {
         out: &mut [u64],
     ) -> Reply
         requires { ⌜ (n ≤ 256) × (length (now columns) ≡ 768) ⌝ }
-        ensures { λ r. ⌜ DayMeets self (cutDay number n (now (columns .entry)) (now (npvs .entry)) (now (margins .entry)) (now (extras .entry))) (now (out .entry)) r (now (out .exit)) ⌝ }
+        ensures { λ r. ⌜ DayMeets self (cutDay terms n (now (columns .entry)) (now (npvs .entry)) (now (margins .entry)) (now (extras .entry))) (now (out .entry)) r (now (out .exit)) ⌝ }
     {
         self.plain_day(
-            number,
+            terms,
             &columns[..n],
             &columns[256..256 + n],
             &columns[512..512 + n],
@@ -323,7 +329,7 @@ impl Period {
     // A day of `count` headings in such columns. More than 256 are taken for none: row 4 refuses both.
     fn column_day(
         mut self,
-        number: u64,
+        terms: DayTerms,
         count: usize,
         columns: [u64; 768],
         npvs: &[i64],
@@ -331,33 +337,33 @@ impl Period {
         extras: &[u64],
         out: &mut [u64],
     ) -> Reply
-        ensures { λ r. ⌜ ((hs : List Heading) → length hs ≡ count → columns ≡ columnsOf hs → DayMeets self (dayBrought number hs (now (npvs .entry)) (now (margins .entry)) (now (extras .entry))) (now (out .entry)) r (now (out .exit))) ⌝ }
+        ensures { λ r. ⌜ ((hs : List Heading) → length hs ≡ count → columns ≡ columnsOf hs → DayMeets self (dayBrought terms hs (now (npvs .entry)) (now (margins .entry)) (now (extras .entry))) (now (out .entry)) r (now (out .exit))) ⌝ }
     {
         let n = headings::counted(count);
-        self.cut_day(number, n, &columns, npvs, margins, extras, out)
+        self.cut_day(terms, n, &columns, npvs, margins, extras, out)
     }
 
     // "A day writes 5 numbers a member (e, share, value, reserve, estimate), each member's five into its own stretch of the lent buffer, and
     // returns T and Max EUL." The form that document 01 names: the headings "come as a lent slice of records".
     pub fn day(
         mut self,
-        number: u64,
+        terms: DayTerms,
         headings: &[Heading],
         npvs: &[i64],
         margins: &[u64],
         extras: &[u64],
         out: &mut [u64],
     ) -> Reply
-        ensures { λ r. ⌜ DayMeets self (dayBrought number (now (headings .entry)) (now (npvs .entry)) (now (margins .entry)) (now (extras .entry))) (now (out .entry)) r (now (out .exit)) ⌝ }
+        ensures { λ r. ⌜ DayMeets self (dayBrought terms (now (headings .entry)) (now (npvs .entry)) (now (margins .entry)) (now (extras .entry))) (now (out .entry)) r (now (out .exit)) ⌝ }
     {
         let columns = headings::unpack(headings);
-        self.column_day(number, headings.len(), columns, npvs, margins, extras, out)
+        self.column_day(terms, headings.len(), columns, npvs, margins, extras, out)
     }
 
     // The first n of an array of headings, lent to `day`.
     fn lend_day(
         mut self,
-        number: u64,
+        terms: DayTerms,
         headings: [Heading; 256],
         n: usize,
         npvs: &[i64],
@@ -366,15 +372,15 @@ impl Period {
         out: &mut [u64],
     ) -> Reply
         requires { ⌜ n ≤ 256 ⌝ }
-        ensures { λ r. ⌜ DayMeets self (dayBrought number (take n headings) (now (npvs .entry)) (now (margins .entry)) (now (extras .entry))) (now (out .entry)) r (now (out .exit)) ⌝ }
+        ensures { λ r. ⌜ DayMeets self (dayBrought terms (take n headings) (now (npvs .entry)) (now (margins .entry)) (now (extras .entry))) (now (out .entry)) r (now (out .exit)) ⌝ }
     {
-        self.day(number, &headings[..n], npvs, margins, extras, out)
+        self.day(terms, &headings[..n], npvs, margins, extras, out)
     }
 
     // `day` for a caller that holds its headings in an array: the first `count` of them.
     pub fn day_of(
         mut self,
-        number: u64,
+        terms: DayTerms,
         headings: [Heading; 256],
         count: usize,
         npvs: &[i64],
@@ -382,18 +388,18 @@ impl Period {
         extras: &[u64],
         out: &mut [u64],
     ) -> Reply
-        ensures { λ r. ⌜ DayMeets self (dayBrought number (take count headings) (now (npvs .entry)) (now (margins .entry)) (now (extras .entry))) (now (out .entry)) r (now (out .exit)) ⌝ }
+        ensures { λ r. ⌜ DayMeets self (dayBrought terms (take count headings) (now (npvs .entry)) (now (margins .entry)) (now (extras .entry))) (now (out .entry)) r (now (out .exit)) ⌝ }
     {
         let n = headings::within(count);
-        self.lend_day(number, headings, n, npvs, margins, extras, out)
+        self.lend_day(terms, headings, n, npvs, margins, extras, out)
     }
 
     // The refusal table's rows of a closing, in their order: 2, 8, 4.
     fn closing_row(self, room: usize) -> Refusal
         ensures { λ r. ⌜ r ≡ closingRow self room ⌝ }
     {
-        let n = self.n;
-        let days = self.days;
+        let n = self.held.n;
+        let days = self.accrued.days;
         let status = self.status_of();
         if !is_open(status) {
             return Refusal::Row(2);
@@ -413,30 +419,22 @@ impl Period {
         ensures { λ r. ⌜ ClosingMeets self (now (out .entry)) r (now (out .exit)) ⌝ }
     {
         let row = self.closing_row(out.len());
-        match row {
-            Refusal::Clear => {
-                let n = self.n as usize;
-                let days = self.days;
-                let highest = self.highest;
-                let sums = self.sums;
-                let funds = fund::write_contributions(sums, n, highest, days, out);
-                let period = Period {
-                    status: Status::Closed,
-                    ..self
-                };
-                Reply {
-                    period,
-                    outcome: Outcome::Closed(days, highest, funds),
-                }
-            }
-            Refusal::Row(refused) => Reply {
-                period: self,
-                outcome: Outcome::Refused(refused),
-            },
-            Refusal::RowAt(refused, index) => Reply {
-                period: self,
-                outcome: Outcome::RefusedAt(refused, index),
-            },
+        if is_refused(row) {
+            return self.refused(row);
+        }
+        let n = self.held.n as usize;
+        let accrued = self.accrued;
+        let days = accrued.days;
+        let highest = accrued.highest;
+        let sums = accrued.sums;
+        let funds = fund::write_contributions(sums, n, highest, days, out);
+        let period = Period {
+            status: Status::Closed,
+            ..self
+        };
+        Reply {
+            period,
+            outcome: Outcome::Closed(days, highest, funds),
         }
     }
 }

@@ -36,7 +36,13 @@ pub fn day_rows(
     requires { ⌜ Even (now members) (now numbers) (now kinds) × (opening .k ≤ 16) ⌝ }
     ensures { λ r. ⌜ r ≡ dayRows (listed opening) last (plainDay terms (now (members .entry)) (now (numbers .entry)) (now (kinds .entry)) (now (npvs .entry)) (now (margins .entry)) (now (extras .entry))) ⌝ }
 {
-    if bad_input(opening.k, members.len(), npvs.len(), margins.len(), extras.len()) {
+    if bad_input(
+        opening.k,
+        members.len(),
+        npvs.len(),
+        margins.len(),
+        extras.len(),
+    ) {
         return Refusal::Row(4); // before row 3
     }
     if bad_day_number(last, terms.number) {

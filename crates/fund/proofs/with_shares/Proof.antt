@@ -7,16 +7,15 @@ use native.Mathlib.Omega.{arith}
 use lib.Dec.{ltb}
 use lib.ListN.{getD}
 use Rattle.numbers.proofs.Filling.{Filled, filled-none, filled-more, filled-rest}
-use Rattle.methodology.specs.Day.{scale, share}
-use Rattle.quotient.proofs.Bounds.{share-le}
+use Rattle.fund.specs.Shares.{shareIn}
 use Rattle.fund.proofs.with_shares.Statement.{statement}
 use Rattle.fund.proofs.with_shares.Tie as tie
 
 abbrev Inv-loop : tie.InvT-loop
-Inv-loop n total sums losses all₀ i₀ all i = (i ≤ n) × Filled 32 (λ x. getD sums x 0 + cond (ltb x n) (share (getD losses x 0) total) 0) 0 sums i all
+Inv-loop n out sums all₀ i₀ all i = (i ≤ n) × Filled 32 (λ x. getD sums x 0 + cond (ltb x n) (shareIn out x) 0) 0 sums i all
 
 abbrev μ-loop : tie.MeasureT-loop
-μ-loop n total sums losses all₀ i₀ all i = n - i
+μ-loop n out sums all₀ i₀ all i = n - i
 
 loop-holds : tie.Need-loop-holds Inv-loop μ-loop
 loop-holds c = (omega arith, filled-none 32 _ 0 _ (search needs))
@@ -27,25 +26,26 @@ mul-all c = search needs
 array-read-all : tie.Need-array-read-all Inv-loop μ-loop
 array-read-all c = search needs
 
-mul-share : tie.Need-mul-share Inv-loop μ-loop
-mul-share c = search needs
-
-array-read-share : tie.Need-array-read-share Inv-loop μ-loop
-array-read-share c = search needs
-
-share-requires : tie.Need-share-requires Inv-loop μ-loop
-share-requires c κs = c .before .before .pre .1 .0 (c .before .loop .i) (c .loop-test .taken)
-
-add-all : tie.Need-add-all Inv-loop μ-loop
-add-all c =
-    let p = c .before .before .before .pre .1 in
-    let i = c .before .before .loop .i in
-    let loss = p .0 i (c .before .loop-test .taken) in
-    let small : c .share .result ≤ scale = rw (c .share .ensures) (share-le scale _ _ (loss .positive) (loss .part)) in
-    omega (arith, p .1 i)
-
 mul-all-2 : tie.Need-mul-all-2 Inv-loop μ-loop
 mul-all-2 c = search needs
+
+add-all : tie.Need-add-all Inv-loop μ-loop
+add-all c = search needs
+
+mul-all-3 : tie.Need-mul-all-3 Inv-loop μ-loop
+mul-all-3 c = search needs
+
+shared-slice-read-all : tie.Need-shared-slice-read-all Inv-loop μ-loop
+shared-slice-read-all c = search needs
+
+add-all-2 : tie.Need-add-all-2 Inv-loop μ-loop
+add-all-2 c =
+    let p = c .before .before .before .pre .1 in
+    let i = c .before .before .loop .i in
+    omega (arith, p .0 i (c .before .loop-test .taken), p .1 i)
+
+mul-all-4 : tie.Need-mul-all-4 Inv-loop μ-loop
+mul-all-4 c = search needs
 
 array-write-all : tie.Need-array-write-all Inv-loop μ-loop
 array-write-all c = search needs
@@ -57,12 +57,11 @@ loop-less : tie.Need-loop-less Inv-loop μ-loop
 loop-less c = search needs
 
 loop-again : tie.Need-loop-again Inv-loop μ-loop
-unfolding share
 loop-again c =
     let l = c .before .before .loop in
     let p = c .before .before .before .pre in
     let h = c .before .loop-test .taken in
-    (omega arith, filled-more 32 _ 0 _ (omega (arith, p .0)) (rw (lt-ltb _ _ h, c .share .ensures)) (l .inv .1))
+    (omega arith, filled-more 32 _ 0 _ (omega (arith, p .0)) (rw (lt-ltb _ _ h)) (l .inv .1))
 
 returns : tie.Need-returns Inv-loop μ-loop
 returns c = filled-rest 32 _ 0 _ (λ x h g. rw (le-ltb x (c .before .before .args .n) (omega (arith, c .loop-test .left))) (omega arith)) (c .before .loop .inv .1)
@@ -76,11 +75,12 @@ with-shares-spec =
     loop-holds
     mul-all
     array-read-all
-    mul-share
-    array-read-share
-    share-requires
-    add-all
     mul-all-2
+    add-all
+    mul-all-3
+    shared-slice-read-all
+    add-all-2
+    mul-all-4
     array-write-all
     add-i
     loop-less

@@ -42,7 +42,10 @@ use denote.Triple.Table.{entered, cited}
 use denote.Triple.Walked.{says, Stays, stay-none, stay-none-slice, gave-slice, walkOf, AllGo, goes-none, goes-none-slice, goes-gave-slice, Walks, ends-at, walked, walk-meets}
 use denote.Exit.{yes}
 use denote.Triple.Clauses.{ensured, Lasts, lasts}
+use Rattle.methodology.specs.declared.DayTerms.{DayTerms}
 use Rattle.methodology.specs.declared.Heading.{Heading}
+use Rattle.methodology.proofs.DayTerms as D
+use Rattle.methodology.proofs.DayTerms.Laws as D′
 use Rattle.methodology.proofs.Heading as T
 use Rattle.headings.specs.Columns.{columns}
 use Rattle.headings.proofs.unpack as unpack
@@ -72,7 +75,7 @@ abbrev stayed : Stays (day.ended .signature .params) (day.ended .kept)
 stayed = (
   stay-none (λ _. P.the-row) yes,
   (
-    stay-none (λ _. u64) yes,
+    stay-none (λ _. D.the-row) yes,
     (
       stay-none-slice (0 ∷ []) tt (plain (λ _. T.the-row)) yes,
       (
@@ -96,14 +99,17 @@ module _ {M : Type 1} (𝓤 : URA M) (H : Heap 𝓤) (A : Atoms 𝓤) (mem : Mem
   ColumnDay = tripleOf 𝓤 H A column-day.signature (column-day.spec 𝓤 H A mem run)
 
 module _ {M : Type 1} (𝓤 : URA M) (H : Heap 𝓤) (A : Atoms 𝓤) (W : Given 𝓤 H A) (mem : Memory → SProp 𝓤) (run : Routine → Fun 𝓤) (κs : Lfts 5) (qs : Shares 5)
-    (p : Period) (k : ℕ) (hs : RefT (List Heading)) (ns : RefT (List ℤ)) (ms es out : RefT (List ℕ))
-    (gp : Is P.the-row p (LL.vals P.the-type P′.the-laws p)) (gk : k < 2 ^ 64) (gh : Room T.the-row (length (hs .now))) (gn : Room i64 (length (ns .now))) (gm : Room u64 (length (ms .now))) (ge : Room u64 (length (es .now))) (go : Room u64 (length (out .now))) where
+    (p : Period) (d : DayTerms) (hs : RefT (List Heading)) (ns : RefT (List ℤ)) (ms es out : RefT (List ℕ))
+    (gp : Is P.the-row p (LL.vals P.the-type P′.the-laws p)) (gd : Is D.the-row d (LL.vals D.the-type D′.the-laws d)) (gh : Room T.the-row (length (hs .now))) (gn : Room i64 (length (ns .now))) (gm : Room u64 (length (ms .now))) (ge : Room u64 (length (es .now))) (go : Room u64 (length (out .now))) where
   abbrev count : ℕ
   count = length (hs .now)
 
   -- the machine values
   abbrev vp : Val
   vp = LL.val P.the-type P′.the-laws p
+
+  abbrev vd : Val
+  vd = LL.val D.the-type D′.the-laws d
 
   abbrev vh : Val
   vh = sliceVal (hs .ptr) count
@@ -121,10 +127,10 @@ module _ {M : Type 1} (𝓤 : URA M) (H : Heap 𝓤) (A : Atoms 𝓤) (W : Given
   vo = sliceVal (out .ptr) (length (out .now))
 
   abbrev a : Args day.signature κs
-  a = (p, (k, (hs, (ns, (ms, (es, (out, tt)))))))
+  a = (p, (d, (hs, (ns, (ms, (es, (out, tt)))))))
 
   abbrev vs : Vals day.signature κs
-  vs = (vp ∷ [], (vint w64 k ∷ [], (vh ∷ [], (vn ∷ [], (vm ∷ [], (ve ∷ [], (vo ∷ [], tt)))))))
+  vs = (vp ∷ [], (vd ∷ [], (vh ∷ [], (vn ∷ [], (vm ∷ [], (ve ∷ [], (vo ∷ [], tt)))))))
 
   abbrev Post : Val → SProp 𝓤
   Post = walkOf 𝓤 H A day.ended stayed (day.clauses 𝓤 H A mem run) .post ((κs, qs, tt, a, vs), tt)
@@ -154,11 +160,11 @@ module _ {M : Type 1} (𝓤 : URA M) (H : Heap 𝓤) (A : Atoms 𝓤) (W : Given
 
   -- what the call does to the period and the buffer
   abbrev Done : Reply → List ℕ → Type 0
-  Done r after = DayMeets p (dayBrought k (now hs) (now ns) (now ms) (now es)) (now out) r after
+  Done r after = DayMeets p (dayBrought d (now hs) (now ns) (now ms) (now es)) (now out) r after
 
   -- what `column_day` says of the columns c
   abbrev Told : List ℕ → Reply → List ℕ → Type 0
-  Told c r after = (xs : List Heading) → length xs ≡ count → c ≡ columns xs → DayMeets p (dayBrought k xs (now ns) (now ms) (now es)) (now out) r after
+  Told c r after = (xs : List Heading) → length xs ≡ count → c ≡ columns xs → DayMeets p (dayBrought d xs (now ns) (now ms) (now es)) (now out) r after
 
   -- the call of `unpack`
   abbrev to-unpack : Unpack 𝓤 H A mem run .Ghost
@@ -166,7 +172,7 @@ module _ {M : Type 1} (𝓤 : URA M) (H : Heap 𝓤) (A : Atoms 𝓤) (W : Given
 
   goes-unpack : ent 𝓤 (onEntry 𝓤 H A day.signature κs qs a vs) (sep 𝓤 (Unpack 𝓤 H A mem run .pre to-unpack) (⋆ 𝓤 H A (‵ Hs ∷ ‵ Rest ∷ Toks ∷ [])))
   goes-unpack =
-      qed W ((‵ (flft (κs .0) (qs .0)) ⊛ Toks) ∷ ‵ (owns (P.the-row ∷ u64 ∷ ShrSlice (named 0) (κs .0) T.the-row ∷ ShrSlice (named 1) (κs .1 .0) i64 ∷ ShrSlice (named 2) (κs .1 .1 .0) u64 ∷ ShrSlice (named 3) (κs .1 .1 .1 .0) u64 ∷ MutSlice (named 4) (κs .1 .1 .1 .1 .0) u64 ∷ []) a vs) ∷ []) ∵
+      qed W ((‵ (flft (κs .0) (qs .0)) ⊛ Toks) ∷ ‵ (owns (P.the-row ∷ D.the-row ∷ ShrSlice (named 0) (κs .0) T.the-row ∷ ShrSlice (named 1) (κs .1 .0) i64 ∷ ShrSlice (named 2) (κs .1 .1 .0) u64 ∷ ShrSlice (named 3) (κs .1 .1 .1 .0) u64 ∷ MutSlice (named 4) (κs .1 .1 .1 .1 .0) u64 ∷ []) a vs) ∷ []) ∵
       split ! $ move ! (2 ∷ []) $ fsplit ! $ drop ! $ fsplit ! $ drop ! $ fsplit ! $ use1 W (‵ Hs ⊛ ‵ Hs) (shr-slice-copy 𝓤 H A W (named 0) (κs .0) T.the-row .twice hs (vh ∷ [])) $ split ! $
       -- [what hs owns, twice; what the rest own; hs's token; the others']
       nothing ! $ move ! (1 ∷ 0 ∷ []) $ fjoin ! $ nothing ! $ move ! (4 ∷ 0 ∷ []) $ join ! $ join ! $ nothing ! $ move ! (1 ∷ 0 ∷ []) $ join ! $ done !
@@ -176,10 +182,10 @@ module _ {M : Type 1} (𝓤 : URA M) (H : Heap 𝓤) (A : Atoms 𝓤) (W : Given
 
   -- the call of `column_day`, at the columns c with the machine value w
   abbrev passed : List ℕ → Args column-day.signature (κs .1)
-  passed c = (p, (k, (count, (c, (ns, (ms, (es, (out, tt))))))))
+  passed c = (p, (d, (count, (c, (ns, (ms, (es, (out, tt))))))))
 
   abbrev to-columns : List ℕ → Val → ColumnDay 𝓤 H A mem run .Ghost
-  to-columns c w = ((κs .1, qs .1, tt, passed c, (vp ∷ [], (vint w64 k ∷ [], (vint w64 count ∷ [], (w ∷ [], (vn ∷ [], (vm ∷ [], (ve ∷ [], (vo ∷ [], tt))))))))), tt)
+  to-columns c w = ((κs .1, qs .1, tt, passed c, (vp ∷ [], (vd ∷ [], (vint w64 count ∷ [], (w ∷ [], (vn ∷ [], (vm ∷ [], (ve ∷ [], (vo ∷ [], tt))))))))), tt)
 
   goes-columns : (c : List ℕ) (w : Val) → Is Columns c (w ∷ []) → ent 𝓤 (⋆ 𝓤 H A (‵ Rest ∷ Toks ∷ [])) (sep 𝓤 (ColumnDay 𝓤 H A mem run .pre (to-columns c w)) (⋆ 𝓤 H A (‵ Es ∷ ‵ Ms ∷ ‵ Ns ∷ [])))
   goes-columns c w g =
@@ -187,7 +193,7 @@ module _ {M : Type 1} (𝓤 : URA M) (H : Heap 𝓤) (A : Atoms 𝓤) (W : Given
       use1 W (‵ Rest ⊛ (‵ Es ⊛ ‵ Ms ⊛ ‵ Ns)) (twice (named 1) (named 2) (named 3) (named 4) (κs .1 .0) (κs .1 .1 .0) (κs .1 .1 .1 .0) (κs .1 .1 .1 .1 .0) ns ms es out 𝓤 H A W) $ split ! $ move ! (1 ∷ []) $ split ! $ move ! (1 ∷ []) $ split ! $ move ! (3 ∷ 2 ∷ 0 ∷ 1 ∷ []) $
       -- [what is passed on; es; ms; ns; the tokens]
       owned ! Columns (Is Columns) (array-makes 𝓤 H A W u64 (uint-makes 𝓤 H A W w64) 768) c _ g $ fjoin ! $ owned ! usize (Is usize) (uint-makes 𝓤 H A W w64) count _ (refl, gh .0) $ fjoin ! $
-      owned ! u64 (Is u64) (uint-makes 𝓤 H A W w64) k _ (refl, gk) $ fjoin ! $
+      owned ! D.the-row (Is D.the-row) (LL.makes D.the-type D′.the-plain 𝓤 H A) d _ gd $ fjoin ! $
       owned ! P.the-row (Is P.the-row) (LL.makes P.the-type P′.the-plain 𝓤 H A) p _ gp $ fjoin ! $ move ! (4 ∷ 0 ∷ []) $ join ! $ nothing ! $ move ! (1 ∷ 0 ∷ []) $ join ! $ done !
 
   exits : (r : Reply) (u : Val) (zs : List ℕ) → length zs ≡ length (out .now) → Done r zs
@@ -198,7 +204,7 @@ module _ {M : Type 1} (𝓤 : URA M) (H : Heap 𝓤) (A : Atoms 𝓤) (W : Given
       split ! $ move ! (0 ∷ 2 ∷ []) $ join ! $ frame ! $
       -- [true; the last list; hs; es; ms; ns; the result]
       move ! (1 ∷ 0 ∷ []) $ fjoin ! $ move ! (2 ∷ 0 ∷ []) $ fjoin ! $ move ! (2 ∷ 0 ∷ []) $ fjoin ! $ move ! (2 ∷ 0 ∷ []) $ fjoin ! $ move ! (1 ∷ 0 ∷ []) $ fjoin ! $
-      owned ! u64 (Is u64) (uint-makes 𝓤 H A W w64) k _ (refl, gk) $ fjoin ! $ owned ! P.the-row (Is P.the-row) (LL.makes P.the-type P′.the-plain 𝓤 H A) p _ gp $ fjoin ! $ done !
+      owned ! D.the-row (Is D.the-row) (LL.makes D.the-type D′.the-plain 𝓤 H A) d _ gd $ fjoin ! $ owned ! P.the-row (Is P.the-row) (LL.makes P.the-type P′.the-plain 𝓤 H A) p _ gp $ fjoin ! $ done !
 
   module _ (C : Calls 𝓤 H) (Λ : Loops 𝓤 H) (fm : FmC 𝓤 H (W .laws) C) (known-unpack : Triple 𝓤 (C #headings·unpack) (Unpack 𝓤 H A mem run)) (known-columns : Triple 𝓤 (C #column-day) (ColumnDay 𝓤 H A mem run)) where
     module _ (l₀ l₁ l₂ l₃ l₄ l₅ l₆ l₇ l₈ l₉ l₁₀ l₁₁ : ℕ) where
@@ -227,13 +233,13 @@ module _ {M : Type 1} (𝓤 : URA M) (H : Heap 𝓤) (A : Atoms 𝓤) (W : Given
       τr = tyRef erased mut word
 
       abbrev En : Env 𝓤 H
-      En = (S′.mir, l₀) ∷ (P′.mir, l₁) ∷ (word, l₂) ∷ (τh, l₃) ∷ (τn, l₄) ∷ (τm, l₅) ∷ (τe, l₆) ∷ (τo, l₇) ∷ (array, l₈) ∷ (word, l₉) ∷ (τr, l₁₀) ∷ (sliceTy τr, l₁₁) ∷ []
+      En = (S′.mir, l₀) ∷ (P′.mir, l₁) ∷ (D′.mir, l₂) ∷ (τh, l₃) ∷ (τn, l₄) ∷ (τm, l₅) ∷ (τe, l₆) ∷ (τo, l₇) ∷ (array, l₈) ∷ (word, l₉) ∷ (τr, l₁₀) ∷ (sliceTy τr, l₁₁) ∷ []
 
       -- what the walk has once the parameters are passed
       abbrev Passed : List (Item 𝓤)
       Passed = ‵ (froom (sliceTy τr) l₁₁ 0) ∷ ‵ (fdies (sliceTy τr) l₁₁) ∷ ‵ (froom τr l₁₀ 0) ∷ ‵ (fdies τr l₁₀) ∷ ‵ (froom word l₉ 0) ∷ ‵ (fdies word l₉) ∷ ‵ (froom array l₈ 0) ∷ ‵ (fdies array l₈)
           ∷ ‵ (fat fullShare τo l₇ 0 vo) ∷ ‵ (fdies τo l₇) ∷ ‵ (fat fullShare τe l₆ 0 ve) ∷ ‵ (fdies τe l₆) ∷ ‵ (fat fullShare τm l₅ 0 vm) ∷ ‵ (fdies τm l₅) ∷ ‵ (fat fullShare τn l₄ 0 vn) ∷ ‵ (fdies τn l₄) ∷ ‵ (fat fullShare τh l₃ 0 vh) ∷ ‵ (fdies τh l₃)
-          ∷ ‵ (fat fullShare word l₂ 0 (vint w64 k)) ∷ ‵ (fdies word l₂) ∷ ‵ (fat fullShare P′.mir l₁ 0 vp) ∷ ‵ (fdies P′.mir l₁) ∷ ‵ (froom S′.mir l₀ 0) ∷ ‵ (fdies S′.mir l₀) ∷ raw (onEntry 𝓤 H A day.signature κs qs a vs) ∷ []
+          ∷ ‵ (fat fullShare D′.mir l₂ 0 vd) ∷ ‵ (fdies D′.mir l₂) ∷ ‵ (fat fullShare P′.mir l₁ 0 vp) ∷ ‵ (fdies P′.mir l₁) ∷ ‵ (froom S′.mir l₀ 0) ∷ ‵ (fdies S′.mir l₀) ∷ raw (onEntry 𝓤 H A day.signature κs qs a vs) ∷ []
 
       starts : Sq W Passed (runs C Λ En body.t-1 (atRet En Post))
       starts =
@@ -262,27 +268,27 @@ module _ {M : Type 1} (𝓤 : URA M) (H : Heap 𝓤) (A : Atoms 𝓤) (W : Given
           move ! (4 ∷ []) $ split ! $ move ! (1 ∷ []) $ split ! $ keep ! (8 ∷ 4 ∷ 5 ∷ 7 ∷ 2 ∷ 0 ∷ 1 ∷ 3 ∷ []) $
           by ! (exits r u (zs .1 .1 .1 .1 .1 .1 .1 .0) l (e (now hs) refl ec))))))))))))
 
-    walk : ent 𝓤 (onEntry 𝓤 H A day.signature κs qs a vs) (WpFn 𝓤 H C Λ code.function (vp ∷ vint w64 k ∷ vh ∷ vn ∷ vm ∷ ve ∷ vo ∷ []) Post)
+    walk : ent 𝓤 (onEntry 𝓤 H A day.signature κs qs a vs) (WpFn 𝓤 H C Λ code.function (vp ∷ vd ∷ vh ∷ vn ∷ vm ∷ ve ∷ vo ∷ []) Post)
     walk =
-        qed W (raw (onEntry 𝓤 H A day.signature κs qs a vs) ∷ []) ∵ enter ! C Λ code.function (vp ∷ vint w64 k ∷ vh ∷ vn ∷ vm ∷ ve ∷ vo ∷ []) _ $
+        qed W (raw (onEntry 𝓤 H A day.signature κs qs a vs) ∷ []) ∵ enter ! C Λ code.function (vp ∷ vd ∷ vh ∷ vn ∷ vm ∷ ve ∷ vo ∷ []) _ $
         alloc1 ! (λ l₀. alloc1 ! (λ l₁. alloc1 ! (λ l₂. alloc1 ! (λ l₃. alloc1 ! (λ l₄. alloc1 ! (λ l₅. alloc1 ! (λ l₆. alloc1 ! (λ l₇. alloc1 ! (λ l₈. alloc1 ! (λ l₉. alloc1 ! (λ l₁₀. alloc1 ! (λ l₁₁. alloc0 ! $ params1 ! $
-        pass1 ! (init ! 20 refl (LL.lawful P.the-type P′.the-laws 𝓤 H A W .typed p _ gp .0)) $ pass1 ! (init ! 18 refl (tt, record { fits = gk })) $
+        pass1 ! (init ! 20 refl (LL.lawful P.the-type P′.the-laws 𝓤 H A W .typed p _ gp .0)) $ pass1 ! (init ! 18 refl (LL.lawful D.the-type D′.the-laws 𝓤 H A W .typed d _ gd .0)) $
         pass1 ! (init ! 16 refl (tt, (tt, (record { fits = gh .0 }, tt)))) $ pass1 ! (init ! 14 refl (tt, (tt, (record { fits = gn .0 }, tt)))) $ pass1 ! (init ! 12 refl (tt, (tt, (record { fits = gm .0 }, tt)))) $
         pass1 ! (init ! 10 refl (tt, (tt, (record { fits = ge .0 }, tt)))) $ pass1 ! (init ! 8 refl (tt, (tt, (record { fits = go .0 }, tt)))) $ pass0 ! $ starts l₀ l₁ l₂ l₃ l₄ l₅ l₆ l₇ l₈ l₉ l₁₀ l₁₁))))))))))))
 
 module _ {M : Type 1} (𝓤 : URA M) (H : Heap 𝓤) (A : Atoms 𝓤) (W : Given 𝓤 H A) (mem : Memory → SProp 𝓤) (run : Routine → Fun 𝓤) (𝓣 : Tables 𝓤 H) (known-unpack : Triple 𝓤 (𝓣 .C #headings·unpack) (Unpack 𝓤 H A mem run)) (known-columns : Triple 𝓤 (𝓣 .C #column-day) (ColumnDay 𝓤 H A mem run)) where
   day-walks : Walks 𝓤 H A day.ended stayed (WpFn 𝓤 H (𝓣 .C) (𝓣 .Λ) code.function) (day.clauses 𝓤 H A mem run)
   day-walks = walked 𝓤 H A day.ended stayed (day.clauses 𝓤 H A mem run) (WpFn 𝓤 H (𝓣 .C) (𝓣 .Λ) code.function)
-      (λ κs. (LL.vals P.the-type P′.the-laws, (uint-vals w64, (slice-vals, (slice-vals, (slice-vals, (slice-vals, (slice-vals, tt))))))))
-      (λ κs. (LL.tells P.the-type P′.the-laws, (uint-tells w64, (shr-slice-tells (named 0) (κs .0) T.the-row, (shr-slice-tells (named 1) (κs .1 .0) i64, (shr-slice-tells (named 2) (κs .1 .1 .0) u64, (shr-slice-tells (named 3) (κs .1 .1 .1 .0) u64, (mut-slice-tells (named 4) (κs .1 .1 .1 .1 .0) u64, tt))))))))
+      (λ κs. (LL.vals P.the-type P′.the-laws, (LL.vals D.the-type D′.the-laws, (slice-vals, (slice-vals, (slice-vals, (slice-vals, (slice-vals, tt))))))))
+      (λ κs. (LL.tells P.the-type P′.the-laws, (LL.tells D.the-type D′.the-laws, (shr-slice-tells (named 0) (κs .0) T.the-row, (shr-slice-tells (named 1) (κs .1 .0) i64, (shr-slice-tells (named 2) (κs .1 .1 .0) u64, (shr-slice-tells (named 3) (κs .1 .1 .1 .0) u64, (mut-slice-tells (named 4) (κs .1 .1 .1 .1 .0) u64, tt))))))))
       (λ κs qs bounds a g are. via 𝓤 _ (fst∗ 𝓤 _ (emp 𝓤)) (walk 𝓤 H A W mem run κs qs (a .0) (a .1 .0) (a .1 .1 .0) (a .1 .1 .1 .0) (a .1 .1 .1 .1 .0) (a .1 .1 .1 .1 .1 .0) (a .1 .1 .1 .1 .1 .1 .0)
-      (are .0) (are .1 .0 .1) (are .1 .1 .0 .0 .1) (are .1 .1 .1 .0 .0 .1) (are .1 .1 .1 .1 .0 .0 .1) (are .1 .1 .1 .1 .1 .0 .0 .1) (are .1 .1 .1 .1 .1 .1 .0 .0 .1) (𝓣 .C) (𝓣 .Λ) (fmOf 𝓤 H (W .laws) 𝓣) known-unpack known-columns))
+      (are .0) (are .1 .0) (are .1 .1 .0 .0 .1) (are .1 .1 .1 .0 .0 .1) (are .1 .1 .1 .1 .0 .0 .1) (are .1 .1 .1 .1 .1 .0 .0 .1) (are .1 .1 .1 .1 .1 .1 .0 .0 .1) (𝓣 .C) (𝓣 .Λ) (fmOf 𝓤 H (W .laws) 𝓣) known-unpack known-columns))
 
   goes : AllGo 𝓤 H A W 5 (day.signature .params) (day.ended .kept) stayed
   goes = (
     goes-none 𝓤 H A W 5 (λ _. P.the-row) yes (λ κs x f. refl),
     (
-      goes-none 𝓤 H A W 5 (λ _. u64) yes (λ κs x f. refl),
+      goes-none 𝓤 H A W 5 (λ _. D.the-row) yes (λ κs x f. refl),
       (
         goes-none-slice 𝓤 H A W 5 (0 ∷ []) tt (plain (λ _. T.the-row)) yes,
         (

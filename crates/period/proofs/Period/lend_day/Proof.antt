@@ -45,7 +45,10 @@ use denote.Triple.Table.{entered, cited}
 use denote.Triple.Walked.{says, Stays, stay-none, stay-none-slice, gave-slice, walkOf, AllGo, goes-none, goes-none-slice, goes-gave-slice, Walks, ends-at, walked, walk-meets, needs}
 use denote.Exit.{yes}
 use denote.Triple.Clauses.{Lasts, lasts}
+use Rattle.methodology.specs.declared.DayTerms.{DayTerms}
 use Rattle.methodology.specs.declared.Heading.{Heading}
+use Rattle.methodology.proofs.DayTerms as D
+use Rattle.methodology.proofs.DayTerms.Laws as D′
 use Rattle.methodology.proofs.Heading as T
 use Rattle.methodology.proofs.Heading.Laws as T′
 use Rattle.headings.proofs.LentArray.{InMemory, Lender, Front, lends-front, front-back}
@@ -72,7 +75,7 @@ abbrev stayed : Stays (lend-day.ended .signature .params) (lend-day.ended .kept)
 stayed = (
   stay-none (λ _. P.the-row) yes,
   (
-    stay-none (λ _. u64) yes,
+    stay-none (λ _. D.the-row) yes,
     (
       stay-none (λ _. Array T.the-row 256) yes,
       (
@@ -95,11 +98,14 @@ module _ {M : Type 1} (𝓤 : URA M) (H : Heap 𝓤) (A : Atoms 𝓤) (mem : Mem
   Day = tripleOf 𝓤 H A day.signature (day.spec 𝓤 H A mem run)
 
 module _ {M : Type 1} (𝓤 : URA M) (H : Heap 𝓤) (A : Atoms 𝓤) (W : Given 𝓤 H A) (mem : Memory → SProp 𝓤) (run : Routine → Fun 𝓤) (κs : Lfts 4) (qs : Shares 4)
-    (p : Period) (k : ℕ) (xs : List Heading) (c : ℕ) (ns : RefT (List ℤ)) (ms es out : RefT (List ℕ))
-    (gp : Is P.the-row p (LL.vals P.the-type P′.the-laws p)) (gk : k < 2 ^ 64) (gx : Is (Array T.the-row 256) xs (array-vals vals xs)) (gc : c < 2 ^ 64) (gn : Room i64 (length (ns .now))) (gm : Room u64 (length (ms .now))) (ge : Room u64 (length (es .now))) (go : Room u64 (length (out .now))) (le : c ≤ 256) where
+    (p : Period) (d : DayTerms) (xs : List Heading) (c : ℕ) (ns : RefT (List ℤ)) (ms es out : RefT (List ℕ))
+    (gp : Is P.the-row p (LL.vals P.the-type P′.the-laws p)) (gd : Is D.the-row d (LL.vals D.the-type D′.the-laws d)) (gx : Is (Array T.the-row 256) xs (array-vals vals xs)) (gc : c < 2 ^ 64) (gn : Room i64 (length (ns .now))) (gm : Room u64 (length (ms .now))) (ge : Room u64 (length (es .now))) (go : Room u64 (length (out .now))) (le : c ≤ 256) where
   -- the machine values
   abbrev vp : Val
   vp = LL.val P.the-type P′.the-laws p
+
+  abbrev vd : Val
+  vd = LL.val D.the-type D′.the-laws d
 
   abbrev vx : Val
   vx = only (array-vals vals xs)
@@ -117,10 +123,10 @@ module _ {M : Type 1} (𝓤 : URA M) (H : Heap 𝓤) (A : Atoms 𝓤) (W : Given
   vo = sliceVal (out .ptr) (length (out .now))
 
   abbrev a : Args lend-day.signature κs
-  a = (p, (k, (xs, (c, (ns, (ms, (es, (out, tt))))))))
+  a = (p, (d, (xs, (c, (ns, (ms, (es, (out, tt))))))))
 
   abbrev vs : Vals lend-day.signature κs
-  vs = (vp ∷ [], (vint w64 k ∷ [], (vx ∷ [], (vint w64 c ∷ [], (vn ∷ [], (vm ∷ [], (ve ∷ [], (vo ∷ [], tt))))))))
+  vs = (vp ∷ [], (vd ∷ [], (vx ∷ [], (vint w64 c ∷ [], (vn ∷ [], (vm ∷ [], (ve ∷ [], (vo ∷ [], tt))))))))
 
   abbrev Post : Val → SProp 𝓤
   Post = walkOf 𝓤 H A lend-day.ended stayed (lend-day.clauses 𝓤 H A mem run) .post ((κs, qs, tt, a, vs), tt)
@@ -152,7 +158,7 @@ module _ {M : Type 1} (𝓤 : URA M) (H : Heap 𝓤) (A : Atoms 𝓤) (W : Given
 
   -- what the call does to the period and the buffer
   abbrev Done : Reply → List ℕ → Type 0
-  Done r after = DayMeets p (dayBrought k (take c xs) (now ns) (now ms) (now es)) (now out) r after
+  Done r after = DayMeets p (dayBrought d (take c xs) (now ns) (now ms) (now es)) (now out) r after
 
   exits : (r : Reply) (u : Val) (zs : List ℕ) → length zs ≡ length (out .now) → Done r zs
       → ent 𝓤 (⋆ 𝓤 H A (Toks ∷ ‵ (finally u64 (out .name) zs) ∷ ‵ Es ∷ ‵ Ms ∷ ‵ Ns ∷ ‵ (S.the-row .own r (u ∷ [])) ∷ [])) (Post u)
@@ -162,7 +168,7 @@ module _ {M : Type 1} (𝓤 : URA M) (H : Heap 𝓤) (A : Atoms 𝓤) (W : Given
       nothing ! $ move ! (1 ∷ 0 ∷ []) $ fjoin ! $ move ! (1 ∷ 0 ∷ []) $ fjoin ! $ move ! (1 ∷ 0 ∷ []) $ fjoin ! $ move ! (1 ∷ 0 ∷ []) $ fjoin ! $
       owned ! usize (Is usize) (uint-makes 𝓤 H A W w64) c _ (refl, gc) $ fjoin ! $
       owned ! (Array T.the-row 256) (Is (Array T.the-row 256)) (array-makes 𝓤 H A W T.the-row (LL.makes T.the-type T′.the-plain 𝓤 H A) 256) xs _ gx $ fjoin ! $
-      owned ! u64 (Is u64) (uint-makes 𝓤 H A W w64) k _ (refl, gk) $ fjoin ! $ owned ! P.the-row (Is P.the-row) (LL.makes P.the-type P′.the-plain 𝓤 H A) p _ gp $ fjoin ! $ done !
+      owned ! D.the-row (Is D.the-row) (LL.makes D.the-type D′.the-plain 𝓤 H A) d _ gd $ fjoin ! $ owned ! P.the-row (Is P.the-row) (LL.makes P.the-type P′.the-plain 𝓤 H A) p _ gp $ fjoin ! $ done !
 
   -- the call of `day`, on the first c elements at the block b, lent for κ under γ
   module _ (κ : Lft) (b : ℕ) (γ : GName) where
@@ -173,19 +179,19 @@ module _ {M : Type 1} (𝓤 : URA M) (H : Heap 𝓤) (A : Atoms 𝓤) (W : Given
     v = sliceVal (b, 0) (length (take c xs))
 
     abbrev passed : Args day.signature (κ, κs)
-    passed = (p, (k, (s, (ns, (ms, (es, (out, tt)))))))
+    passed = (p, (d, (s, (ns, (ms, (es, (out, tt)))))))
 
     abbrev to-day : Day 𝓤 H A mem run .Ghost
-    to-day = (((κ, κs), (fullShare, qs), tt, passed, (vp ∷ [], (vint w64 k ∷ [], (v ∷ [], (vn ∷ [], (vm ∷ [], (ve ∷ [], (vo ∷ [], tt)))))))), tt)
+    to-day = (((κ, κs), (fullShare, qs), tt, passed, (vp ∷ [], (vd ∷ [], (v ∷ [], (vn ∷ [], (vm ∷ [], (ve ∷ [], (vo ∷ [], tt)))))))), tt)
 
     goes-day : ent 𝓤 (⋆ 𝓤 H A (raw (onEntry 𝓤 H A lend-day.signature κs qs a vs) ∷ ‵ (flft κ fullShare) ∷ ‵ (Front T.the-row 256 c xs b κ γ) ∷ [])) (sep 𝓤 (Day 𝓤 H A mem run .pre to-day) (⋆ 𝓤 H A (‵ Es ∷ ‵ Ms ∷ ‵ Ns ∷ [])))
     goes-day =
-        qed W ((Toks ⊛ ‵ (owns (P.the-row ∷ u64 ∷ Array T.the-row 256 ∷ usize ∷ ShrSlice (named 0) (κs .0) i64 ∷ ShrSlice (named 1) (κs .1 .0) u64 ∷ ShrSlice (named 2) (κs .1 .1 .0) u64 ∷ MutSlice (named 3) (κs .1 .1 .1 .0) u64 ∷ []) a vs)) ∷ ‵ (flft κ fullShare) ∷ ‵ (Front T.the-row 256 c xs b κ γ) ∷ []) ∵
+        qed W ((Toks ⊛ ‵ (owns (P.the-row ∷ D.the-row ∷ Array T.the-row 256 ∷ usize ∷ ShrSlice (named 0) (κs .0) i64 ∷ ShrSlice (named 1) (κs .1 .0) u64 ∷ ShrSlice (named 2) (κs .1 .1 .0) u64 ∷ MutSlice (named 3) (κs .1 .1 .1 .0) u64 ∷ []) a vs)) ∷ ‵ (flft κ fullShare) ∷ ‵ (Front T.the-row 256 c xs b κ γ) ∷ []) ∵
         split ! $ move ! (1 ∷ []) $ fsplit ! $ drop ! $ fsplit ! $ drop ! $ fsplit ! $ drop ! $ fsplit ! $ drop ! $
         use1 W (‵ Rest ⊛ (‵ Es ⊛ ‵ Ms ⊛ ‵ Ns)) (twice (named 0) (named 1) (named 2) (named 3) (κs .0) (κs .1 .0) (κs .1 .1 .0) (κs .1 .1 .1 .0) ns ms es out 𝓤 H A W) $ split ! $ move ! (1 ∷ []) $ split ! $ move ! (1 ∷ []) $ split ! $ move ! (3 ∷ 2 ∷ 0 ∷ 1 ∷ []) $
         -- [what is passed on; es; ms; ns; the tokens; the new token; the headings]
         move ! (6 ∷ 0 ∷ []) $ fjoin ! $
-        owned ! u64 (Is u64) (uint-makes 𝓤 H A W w64) k _ (refl, gk) $ fjoin ! $ owned ! P.the-row (Is P.the-row) (LL.makes P.the-type P′.the-plain 𝓤 H A) p _ gp $ fjoin ! $
+        owned ! D.the-row (Is D.the-row) (LL.makes D.the-type D′.the-plain 𝓤 H A) d _ gd $ fjoin ! $ owned ! P.the-row (Is P.the-row) (LL.makes P.the-type P′.the-plain 𝓤 H A) p _ gp $ fjoin ! $
         move ! (5 ∷ 4 ∷ []) $ join ! $ join ! $ nothing ! $ move ! (1 ∷ 0 ∷ []) $ join ! $ done !
 
   module _ (C : Calls 𝓤 H) (Λ : Loops 𝓤 H) (fm : FmC 𝓤 H (W .laws) C) (known : Triple 𝓤 (C #day) (Day 𝓤 H A mem run)) where
@@ -218,12 +224,12 @@ module _ {M : Type 1} (𝓤 : URA M) (H : Heap 𝓤) (A : Atoms 𝓤) (W : Given
       τr = tyRef erased mut word
 
       abbrev En : Env 𝓤 H
-      En = (S′.mir, l₀) ∷ (P′.mir, l₁) ∷ (word, l₂) ∷ (array, l₃) ∷ (word, l₄) ∷ (τn, l₅) ∷ (τm, l₆) ∷ (τe, l₇) ∷ (τo, l₈) ∷ (array, l₉) ∷ (τa, l₁₀) ∷ (τs, l₁₁) ∷ (τr, l₁₂) ∷ (sliceTy τr, l₁₃) ∷ []
+      En = (S′.mir, l₀) ∷ (P′.mir, l₁) ∷ (D′.mir, l₂) ∷ (array, l₃) ∷ (word, l₄) ∷ (τn, l₅) ∷ (τm, l₆) ∷ (τe, l₇) ∷ (τo, l₈) ∷ (array, l₉) ∷ (τa, l₁₀) ∷ (τs, l₁₁) ∷ (τr, l₁₂) ∷ (sliceTy τr, l₁₃) ∷ []
 
       abbrev Passed : List (Item 𝓤)
       Passed = ‵ (froom (sliceTy τr) l₁₃ 0) ∷ ‵ (fdies (sliceTy τr) l₁₃) ∷ ‵ (froom τr l₁₂ 0) ∷ ‵ (fdies τr l₁₂) ∷ ‵ (froom τs l₁₁ 0) ∷ ‵ (fdies τs l₁₁) ∷ ‵ (froom τa l₁₀ 0) ∷ ‵ (fdies τa l₁₀) ∷ ‵ (froom array l₉ 0) ∷ ‵ (fdies array l₉)
           ∷ ‵ (fat fullShare τo l₈ 0 vo) ∷ ‵ (fdies τo l₈) ∷ ‵ (fat fullShare τe l₇ 0 ve) ∷ ‵ (fdies τe l₇) ∷ ‵ (fat fullShare τm l₆ 0 vm) ∷ ‵ (fdies τm l₆) ∷ ‵ (fat fullShare τn l₅ 0 vn) ∷ ‵ (fdies τn l₅)
-          ∷ ‵ (fat fullShare word l₄ 0 (vint w64 c)) ∷ ‵ (fdies word l₄) ∷ ‵ (fat fullShare array l₃ 0 vx) ∷ ‵ (fdies array l₃) ∷ ‵ (fat fullShare word l₂ 0 (vint w64 k)) ∷ ‵ (fdies word l₂) ∷ ‵ (fat fullShare P′.mir l₁ 0 vp) ∷ ‵ (fdies P′.mir l₁)
+          ∷ ‵ (fat fullShare word l₄ 0 (vint w64 c)) ∷ ‵ (fdies word l₄) ∷ ‵ (fat fullShare array l₃ 0 vx) ∷ ‵ (fdies array l₃) ∷ ‵ (fat fullShare D′.mir l₂ 0 vd) ∷ ‵ (fdies D′.mir l₂) ∷ ‵ (fat fullShare P′.mir l₁ 0 vp) ∷ ‵ (fdies P′.mir l₁)
           ∷ ‵ (froom S′.mir l₀ 0) ∷ ‵ (fdies S′.mir l₀) ∷ raw (onEntry 𝓤 H A lend-day.signature κs qs a vs) ∷ []
 
       starts : Sq W Passed (runs C Λ En body.t-1 (atRet En Post))
@@ -253,11 +259,11 @@ module _ {M : Type 1} (𝓤 : URA M) (H : Heap 𝓤) (A : Atoms 𝓤) (W : Given
           move ! (31 ∷ 32 ∷ []) $ free1 ! $ move ! (29 ∷ 30 ∷ []) $ free1 ! $ move ! (27 ∷ 28 ∷ []) $ free1 ! $ move ! (25 ∷ 26 ∷ []) $ free1 ! $ move ! (23 ∷ 24 ∷ []) $ free1 ! $ move ! (21 ∷ 22 ∷ []) $ free1 ! $ move ! (19 ∷ 20 ∷ []) $ free1 ! $ move ! (17 ∷ 18 ∷ []) $ free1 ! $ move ! (15 ∷ 16 ∷ []) $ free1 ! $ move ! (1 ∷ 14 ∷ []) $ free1 ! $ move ! (11 ∷ 12 ∷ []) $ free1 ! $ move ! (9 ∷ 10 ∷ []) $ free1 ! $ move ! (7 ∷ 8 ∷ []) $ free1 ! $ move ! (5 ∷ 6 ∷ []) $ free1 ! $ free0 ! $
           move ! (4 ∷ []) $ split ! $ move ! (1 ∷ []) $ split ! $ keep ! (4 ∷ 5 ∷ 2 ∷ 0 ∷ 1 ∷ 3 ∷ []) $ by ! (exits r u (zs .1 .1 .1 .1 .1 .1 .0) l e)))))))))
 
-    walk : ent 𝓤 (onEntry 𝓤 H A lend-day.signature κs qs a vs) (WpFn 𝓤 H C Λ code.function (vp ∷ vint w64 k ∷ vx ∷ vint w64 c ∷ vn ∷ vm ∷ ve ∷ vo ∷ []) Post)
+    walk : ent 𝓤 (onEntry 𝓤 H A lend-day.signature κs qs a vs) (WpFn 𝓤 H C Λ code.function (vp ∷ vd ∷ vx ∷ vint w64 c ∷ vn ∷ vm ∷ ve ∷ vo ∷ []) Post)
     walk =
-        qed W (raw (onEntry 𝓤 H A lend-day.signature κs qs a vs) ∷ []) ∵ enter ! C Λ code.function (vp ∷ vint w64 k ∷ vx ∷ vint w64 c ∷ vn ∷ vm ∷ ve ∷ vo ∷ []) _ $
+        qed W (raw (onEntry 𝓤 H A lend-day.signature κs qs a vs) ∷ []) ∵ enter ! C Λ code.function (vp ∷ vd ∷ vx ∷ vint w64 c ∷ vn ∷ vm ∷ ve ∷ vo ∷ []) _ $
         alloc1 ! (λ l₀. alloc1 ! (λ l₁. alloc1 ! (λ l₂. alloc1 ! (λ l₃. alloc1 ! (λ l₄. alloc1 ! (λ l₅. alloc1 ! (λ l₆. alloc1 ! (λ l₇. alloc1 ! (λ l₈. alloc1 ! (λ l₉. alloc1 ! (λ l₁₀. alloc1 ! (λ l₁₁. alloc1 ! (λ l₁₂. alloc1 ! (λ l₁₃. alloc0 ! $ params1 ! $
-        pass1 ! (init ! 24 refl (LL.lawful P.the-type P′.the-laws 𝓤 H A W .typed p _ gp .0)) $ pass1 ! (init ! 22 refl (tt, record { fits = gk })) $
+        pass1 ! (init ! 24 refl (LL.lawful P.the-type P′.the-laws 𝓤 H A W .typed p _ gp .0)) $ pass1 ! (init ! 22 refl (LL.lawful D.the-type D′.the-laws 𝓤 H A W .typed d _ gd .0)) $
         pass1 ! (init ! 20 refl (array-lawful 𝓤 H A W T.the-row (LL.lawful T.the-type T′.the-laws 𝓤 H A W) 256 .typed xs _ gx .0)) $ pass1 ! (init ! 18 refl (tt, record { fits = gc })) $
         pass1 ! (init ! 16 refl (tt, (tt, (record { fits = gn .0 }, tt)))) $ pass1 ! (init ! 14 refl (tt, (tt, (record { fits = gm .0 }, tt)))) $
         pass1 ! (init ! 12 refl (tt, (tt, (record { fits = ge .0 }, tt)))) $ pass1 ! (init ! 10 refl (tt, (tt, (record { fits = go .0 }, tt)))) $ pass0 ! $ starts l₀ l₁ l₂ l₃ l₄ l₅ l₆ l₇ l₈ l₉ l₁₀ l₁₁ l₁₂ l₁₃))))))))))))))
@@ -265,16 +271,16 @@ module _ {M : Type 1} (𝓤 : URA M) (H : Heap 𝓤) (A : Atoms 𝓤) (W : Given
 module _ {M : Type 1} (𝓤 : URA M) (H : Heap 𝓤) (A : Atoms 𝓤) (W : Given 𝓤 H A) (mem : Memory → SProp 𝓤) (run : Routine → Fun 𝓤) (𝓣 : Tables 𝓤 H) (known : Triple 𝓤 (𝓣 .C #day) (Day 𝓤 H A mem run)) where
   lend-day-walks : Walks 𝓤 H A lend-day.ended stayed (WpFn 𝓤 H (𝓣 .C) (𝓣 .Λ) code.function) (lend-day.clauses 𝓤 H A mem run)
   lend-day-walks = walked 𝓤 H A lend-day.ended stayed (lend-day.clauses 𝓤 H A mem run) (WpFn 𝓤 H (𝓣 .C) (𝓣 .Λ) code.function)
-      (λ κs. (LL.vals P.the-type P′.the-laws, (uint-vals w64, (array-vals vals, (uint-vals w64, (slice-vals, (slice-vals, (slice-vals, (slice-vals, tt)))))))))
-      (λ κs. (LL.tells P.the-type P′.the-laws, (uint-tells w64, (array-tells T.the-row vals (LL.tells T.the-type T′.the-laws) 256, (uint-tells w64, (shr-slice-tells (named 0) (κs .0) i64, (shr-slice-tells (named 1) (κs .1 .0) u64, (shr-slice-tells (named 2) (κs .1 .1 .0) u64, (mut-slice-tells (named 3) (κs .1 .1 .1 .0) u64, tt)))))))))
+      (λ κs. (LL.vals P.the-type P′.the-laws, (LL.vals D.the-type D′.the-laws, (array-vals vals, (uint-vals w64, (slice-vals, (slice-vals, (slice-vals, (slice-vals, tt)))))))))
+      (λ κs. (LL.tells P.the-type P′.the-laws, (LL.tells D.the-type D′.the-laws, (array-tells T.the-row vals (LL.tells T.the-type T′.the-laws) 256, (uint-tells w64, (shr-slice-tells (named 0) (κs .0) i64, (shr-slice-tells (named 1) (κs .1 .0) u64, (shr-slice-tells (named 2) (κs .1 .1 .0) u64, (mut-slice-tells (named 3) (κs .1 .1 .1 .0) u64, tt)))))))))
       (λ κs qs bounds a g are. needs 𝓤 _ _ (λ le. walk 𝓤 H A W mem run κs qs (a .0) (a .1 .0) (a .1 .1 .0) (a .1 .1 .1 .0) (a .1 .1 .1 .1 .0) (a .1 .1 .1 .1 .1 .0) (a .1 .1 .1 .1 .1 .1 .0) (a .1 .1 .1 .1 .1 .1 .1 .0)
-      (are .0) (are .1 .0 .1) (are .1 .1 .0) (are .1 .1 .1 .0 .1) (are .1 .1 .1 .1 .0 .0 .1) (are .1 .1 .1 .1 .1 .0 .0 .1) (are .1 .1 .1 .1 .1 .1 .0 .0 .1) (are .1 .1 .1 .1 .1 .1 .1 .0 .0 .1) le (𝓣 .C) (𝓣 .Λ) (fmOf 𝓤 H (W .laws) 𝓣) known))
+      (are .0) (are .1 .0) (are .1 .1 .0) (are .1 .1 .1 .0 .1) (are .1 .1 .1 .1 .0 .0 .1) (are .1 .1 .1 .1 .1 .0 .0 .1) (are .1 .1 .1 .1 .1 .1 .0 .0 .1) (are .1 .1 .1 .1 .1 .1 .1 .0 .0 .1) le (𝓣 .C) (𝓣 .Λ) (fmOf 𝓤 H (W .laws) 𝓣) known))
 
   goes : AllGo 𝓤 H A W 4 (lend-day.signature .params) (lend-day.ended .kept) stayed
   goes = (
     goes-none 𝓤 H A W 4 (λ _. P.the-row) yes (λ κs x f. refl),
     (
-      goes-none 𝓤 H A W 4 (λ _. u64) yes (λ κs x f. refl),
+      goes-none 𝓤 H A W 4 (λ _. D.the-row) yes (λ κs x f. refl),
       (
         goes-none 𝓤 H A W 4 (λ _. Array T.the-row 256) yes (λ κs x f. refl),
         (

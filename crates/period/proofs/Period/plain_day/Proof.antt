@@ -1,107 +1,128 @@
--- `plain_day` meets its contract: the refusal of `day_row`, row 7 by the total that was found, or the reply and the buffer of `Sizing`.
+-- `plain_day` meets its contract: what `Replies` has for what the refusal table says; `Sizing` has what the figures ask for, and that they are
+-- the day's.
 use borrow.Author.Needs.{needs}
-use mathlib.Core.Path.{_≡_, sym, subst, _∙_}
+use mathlib.Core.Path.{_≡_, sym, ap, _∙_}
 use native.Mathlib.Omega.{arith}
+use Prim.Native.Nat.{_<_}
 use lib.ListN.{length}
-use Rattle.methodology.specs.declared.Refusal.{Refusal}
-use Rattle.methodology.specs.declared.Refusal.the-variants.{Clear, Row, RowAt}
+use Rattle.methodology.specs.declared.Refusal.the-variants.{Clear}
 use Rattle.methodology.specs.Account.{DayInput}
-use Rattle.validation.specs.Slices.{plainDay}
-use Rattle.period.specs.Plain.{Even}
-use Rattle.period.specs.Rows.{Passes, BeforeTotal}
-use Rattle.period.proofs.DayRows.{row-7, none}
-use Rattle.period.proofs.Sizing.{in-range, members-few, room-long, sizable, groups-fit, sums-fit, total-is, part, shares, top-is, top-few, written, day-refused, day-refused-at, day-accepted}
+use Rattle.methodology.specs.Day.{total, dailies}
+use Rattle.validation.specs.Slices.{plainDay, Even}
+use Rattle.fund.proofs.Dailies.{dailies-long}
+use Rattle.period.specs.Calls.{held, accountsBrought}
+use Rattle.period.specs.Plain.{beforeFigures}
+use Rattle.period.proofs.Replies.{none-met, day-refused, day-refused-7, day-clear, day-accepted}
+use Rattle.period.proofs.Sizing.{Admits, admits, members-few, grouped, sums-fit, shares-few, taken-in, sizable, total-is, top-is, top-few, part, written}
 use Rattle.period.proofs.Period.plain_day.Statement.{statement}
 use Rattle.period.proofs.Period.plain_day.Tie as tie
 
+abbrev at-start : tie.After-is-refused → tie.Start
+at-start c = c .before .before .before .before .before .before .before .before
+
 abbrev day : tie.Start → DayInput
-day s = plainDay (s .args .number) (s .args .members .now) (s .args .numbers .now) (s .args .kinds .now) (s .args .npvs .now) (s .args .margins .now) (s .args .extras .now)
+day s = let a = s .args in plainDay (a .terms) (a .members .now) (a .numbers .now) (a .kinds .now) (a .npvs .now) (a .margins .now) (a .extras .now)
 
--- what `day_row` said, in each arm
-told : (c : tie.After-day-row) (r : Refusal) → c .day-row .result ≡ r → let s = c .before .before .before .before .before .before .before in BeforeTotal (s .args .self) (day s) (length (s .args .out .now)) r
-told c r e =
-    let s = c .before .before .before .before .before .before .before in
-    subst (λ (x : Refusal). BeforeTotal (s .args .self) (day s) (length (s .args .out .now)) x) e (c .day-row .ensures)
+-- where no row before 7 is met
+clear : (c : tie.Else1) → let s = at-start (c .before) in beforeFigures (s .args .self) (day s) (length (s .args .out .now)) ≡ Clear
+clear c = sym (c .before .before .day-row .ensures) ∙ none-met _ (sym (c .before .is-refused .ensures) ∙ c .if1 .left)
 
-passes : (c : tie.After-enum-told) → let s = c .before .before .before .before .before .before .before .before .before in Passes (s .args .self) (day s) (length (s .args .out .now))
-passes c = told (c .before .before) Clear (c .enum-told .given .1)
+admitted : (c : tie.Else1) → let s = at-start (c .before) in Admits (s .args .self) (day s) (length (s .args .out .now))
+admitted c = admits _ _ _ (clear c)
 
-even : (c : tie.After-enum-told) → let s = c .before .before .before .before .before .before .before .before .before in Even (s .args .members .now) (s .args .numbers .now) (s .args .kinds .now)
-even c = c .before .before .before .before .before .before .before .before .before .pre
+even : (c : tie.Else1) → let a = at-start (c .before) .args in Even (a .members .now) (a .numbers .now) (a .kinds .now)
+even c = at-start (c .before) .pre
+
+-- what the figures leave: the losses' total is above 0, and the buffer holds the day's five numbers a member
+abbrev open-at : tie.After-write-dailies → tie.Else1
+open-at w = w .before .before .before .before .before .before .before
+
+positive : (w : tie.After-write-dailies) → let s = at-start (open-at w .before) in 0 < total (held (s .args .self)) (accountsBrought (s .args .self) (day s))
+positive w =
+    let e = open-at w in
+    let is = total-is (even e) (admitted e) _ (w .before .before .before .before .before .day-figures .ensures) in
+    omega (arith, w .before .before .before .if2 .left)
+
+left-by : (w : tie.After-write-dailies) → let s = at-start (open-at w .before) in w .write-dailies .last .1 .1 .1 .1 .0 ≡ dailies (held (s .args .self)) (accountsBrought (s .args .self) (day s))
+left-by w =
+    let e = open-at w in
+    w .write-dailies .ensures ∙ written (even e) (admitted e) _ (w .before .before .before .before .before .day-figures .ensures)
 
 day-row-requires : tie.Need-day-row-requires
-day-row-requires c κs = c .before .before .before .before .before .before .pre
+day-row-requires c κs = search needs
 
-enum-told : tie.Need-enum-told
-enum-told c = search needs
+is-refused-requires : tie.Need-is-refused-requires
+is-refused-requires c κs = search needs
 
-member-losses-requires : tie.Need-member-losses-requires
-member-losses-requires c κs = sizable (even c) (passes c)
+refused-requires : tie.Need-refused-requires
+refused-requires c κs = search needs
 
 returns : tie.Need-returns
 returns c =
-    let m = c .before in
-    let s = passes (m .before) in
-    day-refused _ _ _ 7 (row-7 s (sym (total-is (even (m .before)) s _ (m .member-losses .ensures)) ∙ c .if1 .taken))
+    let t = c .before in
+    day-refused _ _ _ _ (t .before .before .day-row .ensures) (sym (t .before .is-refused .ensures) ∙ t .if1 .taken) (c .refused .ensures)
 
-max-eul-requires : tie.Need-max-eul-requires
-max-eul-requires c κs =
-    let s = passes (c .before .before .before) in
-    (sizable (even (c .before .before .before)) s, groups-fit s)
+day-figures-requires : tie.Need-day-figures-requires
+day-figures-requires c κs =
+    let e = c .before in
+    (sizable (even e) (admitted e), grouped (admitted e))
+
+refused-requires-2 : tie.Need-refused-requires-2
+refused-requires-2 c κs = search needs
+
+returns-2 : tie.Need-returns-2
+returns-2 c =
+    let f = c .before .before .before in
+    let e = f .before .before in
+    day-refused-7 _ _ _ (clear e) (sym (total-is (even e) (admitted e) _ (f .day-figures .ensures)) ∙ c .before .if2 .taken) (c .refused2 .ensures)
 
 write-dailies-requires : tie.Need-write-dailies-requires
 write-dailies-requires c κs =
-    let m = c .before .before .before .before .before in
-    let e = even (m .before) in
-    let s = passes (m .before) in
-    ((members-few s, room-long s), (part e s _ (m .member-losses .ensures) (c .before .before .before .before .if1 .left), top-few e s _ (m .member-losses .ensures) _ (c .before .before .max-eul .ensures)))
+    let f = c .before .before .before .before in
+    let e = f .before .before in
+    let a = admitted e in
+    ((members-few a, a .room-long), (part (even e) a _ (f .day-figures .ensures) (c .before .before .if2 .left), top-few (even e) a _ (f .day-figures .ensures)))
 
 with-day-requires : tie.Need-with-day-requires
 with-day-requires c κs =
-    let m = c .before .before .before .before .before .before .before .before in
-    let e = even (m .before) in
-    let s = passes (m .before) in
-    let r = in-range s in
-    ((members-few s, omega (arith, r .counted, r .month)), (part e s _ (m .member-losses .ensures) (c .before .before .before .before .before .before .before .if1 .left), sums-fit s))
-
-enum-known-row : tie.Need-enum-known-row
-enum-known-row c = search needs
-
-enum-known-row-2 : tie.Need-enum-known-row-2
-enum-known-row-2 c = search needs
+    let w = c .before .before .before in
+    let e = open-at w in
+    let a = admitted e in
+    let r = a .in-range in
+    let after = left-by w in (
+      (members-few a, omega (arith, r .counted, r .month), ap length after ∙ dailies-long (held (at-start (e .before) .args .self)) _),
+      ((λ i h. rw after (shares-few (at-start (e .before) .args .self) (day (at-start (e .before))) (positive w) i h)), sums-fit a),
+    )
 
 same-length : tie.Need-same-length
 same-length c = search needs
 
-returns-2 : tie.Need-returns-2
-returns-2 c =
-    let m = c .before .before .before .before .before .before .before .before .before in
-    let e = even (m .before) in
-    let s = passes (m .before) in
-    let f = m .member-losses .ensures in
-    let x = c .before .before .before .before .before .before .max-eul .ensures in
-    day-accepted _ _ _ (none s (λ z. c .before .before .before .before .before .before .before .before .if1 .left (total-is e s _ f ∙ z))) _ _ (m .member-losses .result .each) _ _ (total-is e s _ f) (top-is e s _ f _ x) (shares e s _ f) (c .with-day .ensures) (c .before .before .before .write-dailies .ensures ∙ written e s _ f _ x)
-
 returns-3 : tie.Need-returns-3
-returns-3 c = day-refused _ _ _ _ (told (c .before .before .before) (Row _) (c .before .row .given .1))
-
-returns-4 : tie.Need-returns-4
-returns-4 c = day-refused-at _ _ _ _ _ (told (c .before .before .before) (RowAt _ _) (c .before .row2 .given .1))
+returns-3 c =
+    let w = c .before .before .before .before in
+    let e = open-at w in
+    let f = w .before .before .before .before .before in
+    let a = admitted e in
+    let total = total-is (even e) a _ (f .day-figures .ensures) in
+    let top = top-is (even e) a _ (f .day-figures .ensures) in
+    let s = at-start (e .before) in
+    let p = s .args .self in
+    let out = s .args .out .now in
+    let none = day-clear p (day s) out (clear e) (λ z. w .before .before .before .if2 .left (total ∙ z)) in
+    rw (c .with-day .ensures) (day-accepted p (day s) out none _ _ _ total top (left-by w) (taken-in p (day s) _ top _ (left-by w)))
 
 pub plain-day-spec : {M : Type 1} → statement M
 plain-day-spec =
     tie.close
     (tie.spec
     day-row-requires
-    enum-told
-    member-losses-requires
+    is-refused-requires
+    refused-requires
     returns
-    max-eul-requires
+    day-figures-requires
+    refused-requires-2
+    returns-2
     write-dailies-requires
     with-day-requires
-    enum-known-row
-    enum-known-row-2
     same-length
-    returns-2
-    returns-3
-    returns-4)
+    returns-3)

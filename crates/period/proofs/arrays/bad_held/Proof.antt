@@ -9,16 +9,20 @@ use Rattle.period.proofs.arrays.bad_held.Statement.{statement}
 use Rattle.period.proofs.arrays.bad_held.Tie as tie
 
 returns : tie.Need-returns
-returns c = sym (n-high _ _ _ (c .if1 .taken))
+returns c = sym (n-high (c .before .args .held) _ (c .if1 .taken))
 
 array-share-prefix-groups : tie.Need-array-share-prefix-groups
-array-share-prefix-groups c = search needs
+array-share-prefix-groups c =
+    let s = c .before .before in
+    let long : length (s .args .held .groups) ≡ 32 = search needs in
+    omega (arith, long, c .before .if1 .left)
 
 slice-aggregate-bad-opening : tie.Need-slice-aggregate-bad-opening
 slice-aggregate-bad-opening c =
-    let a = c .before .before .args in
-    let long : length (a .t3) ≡ 32 = search needs in
-    sym (length-take-le (a .n) (a .t3) (omega (arith, c .before .if1 .left)))
+    let e = c .before .before in
+    let a = e .before .args in
+    let long : length (a .held .groups) ≡ 32 = search needs in
+    sym (length-take-le (a .held .n) (a .held .groups) (omega (arith, e .if1 .left)))
 
 bad-opening-requires : tie.Need-bad-opening-requires
 bad-opening-requires c κs = search needs
