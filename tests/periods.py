@@ -103,15 +103,18 @@ def holders(found):
 
 
 def claimed(root):
-    """The functions that the claim is about: the one that every list starts from, and the calls."""
+    """The functions that the claim is about: the one that every list starts from, and the calls.
+    `FromFresh` and `Called` have calls of what `CallOf` names, whose definition has the modules."""
     with open(os.path.join(root, CLAIM), encoding="utf8") as file:
         text = file.read()
     uses = re.findall(r"^use Rattle·(\S+) as (\S+)$", text, re.M)
     modules = {name: module for module, name in uses}
-    parts = [re.search(rf"pub {head}\b.*?\n\n", text, re.S)[0]
-             for head in ("record FromFresh", "data Called")]
+    records = [re.search(rf"pub record {head}\b.*?\n\n", text, re.S)[0]
+               for head in ("FromFresh", "Called")]
+    called = [name for part in records for name in re.findall(r"CallOf \(?(\w+)", part)]
+    defined = [re.search(rf"pub {name} : .*?\n\n", text, re.S)[0] for name in called]
     return {modules[name].replace(".proofs.", ".").replace(".", "::")
-            for part in parts for name in re.findall(r"Args (\S+)\.signature", part)}
+            for part in defined for name in re.findall(r"ended = (\S+)\.ended;", part)}
 
 
 def main():

@@ -1,6 +1,6 @@
--- Demand 3, of the program. The record `Demand3` is the claim, whole: demand 3 of every list of calls; that every list of arguments has a
--- run; that the compiled functions meet their contracts; that these are the contracts which the lists speak of; and demand 3 of every list
--- of compiled calls. `demand-3` proves it.
+-- Demand 3, of the program. The record `Demand3` is the claim, whole: demand 3 of every list of calls; that calls with any arguments can be
+-- made; that the compiled functions meet their contracts, and that these are the contracts which the lists speak of; and demand 3 of every
+-- list of compiled calls. `demand-3` proves it.
 use mathlib.Core.Path.{_≡_, refl, subst}
 use mathlib.Core.List.{List, [], _∷_, _++_, map, map-append}
 use Prim.Native.Nat.{ℕ}
@@ -16,13 +16,12 @@ use contract.Notation.{connectives}
 use contract.Lifetimes.{Lfts}
 use contract.Running.{GhostRules, Running}
 use denote.Triple.Entry.{Args, Res}
-use denote.Triple.Clauses.{AtExit}
+use denote.Triple.Clauses.{Ended, ClausesAt, Clauses, AtExit}
 use denote.Ref.{now}
-use lib.ListN.{length, take}
+use lib.ListN.{take}
 use Rattle.methodology.specs.declared.Refusal.the-variants.{Clear}
-use Rattle.methodology.specs.Register.{Call, start, refusal}
+use Rattle.methodology.specs.Register.{start, refusal}
 use Rattle.period.specs.declared.Period.{Period}
-use Rattle.period.specs.declared.Reply.{Reply}
 use Rattle.period.specs.Reading.{brought, dayBrought, answerOf}
 use Rattle.period.specs.Calls.{freshPeriod}
 use Rattle.period.proofs.Period.fresh as fresh-fn
@@ -46,124 +45,146 @@ use Rattle.period.proofs.Period.day.Met as day-proved
 use Rattle.period.proofs.Period.day_of.Met as day-of-proved
 use Rattle.period.proofs.Period.closing.Met as closing-proved
 use Rattle.period.proofs.Simulation.{starts}
-use Rattle.demand3.specs.Runs.{Asked, Made, replyOf, Meets, Run}
-use Rattle.demand3.specs.Demand3.{Covers, Holds, registerAfter, Narrow, HasRun}
+use Rattle.demand3.specs.Made.{Asked, Made, callOf, Meets, MadeOn}
+use Rattle.demand3.specs.Demand3.{Covers, Holds, registerAfter, Narrow, CanBeMade}
 use Rattle.demand3.proofs.Lists.{holds, last-closing}
-use Rattle.demand3.proofs.Fitting.{narrow-fresh, has-run}
-use Rattle.demand3.proofs.Facts.{Ensured, fact-holds, period-set, meets-prop}
+use Rattle.demand3.proofs.Fitting.{narrow-fresh, can-be-made}
+use Rattle.demand3.proofs.Facts.{Ensured, fact-holds, period-set, opening-prop, meets-prop, no-buffer}
 use Rattle.demand3.proofs.Returns.{Returns, returns}
 
--- A call as the logic has it: its arguments, its result, and what its parameters refer to at exit.
-pub data Called : Type 0 where
-  opening : (κs : Lfts 1) (a : Args opening-fn.signature κs) (r : Res opening-fn.signature κs) (e : AtExit opening-fn.ended κs) → Called
-  day : (κs : Lfts 5) (a : Args day-fn.signature κs) (r : Res day-fn.signature κs) (e : AtExit day-fn.ended κs) → Called
-  day-of : (κs : Lfts 4) (a : Args day-of-fn.signature κs) (r : Res day-of-fn.signature κs) (e : AtExit day-of-fn.ended κs) → Called
-  closing : (κs : Lfts 1) (a : Args closing-fn.signature κs) (r : Res closing-fn.signature κs) (e : AtExit closing-fn.ended κs) → Called
+-- ---- the compiled functions
 
--- the period that it was given
+-- A compiled function, as the toolchain has it from the code: its signature, with what is known of its parameters at exit; its clauses; its
+-- routine; and the statement that the routine meets the clauses.
+pub record Compiled : Type 3 where
+  pub ended : Ended
+  pub clauses : {M : Type 1} (𝓤 : URA M) → Heap 𝓤 → Atoms 𝓤 → (Memory → SProp 𝓤) → (Routine → Fun 𝓤) → Clauses 𝓤 ended
+  pub routine : Routine
+  pub statement : Type 1 → Type 2
+
+-- the one that makes the first period
+abbrev pub fresh : Compiled
+fresh = record { ended = fresh-fn.ended; clauses = fresh-fn.clauses; routine = fresh-code.routine; statement = fresh-stated.statement }
+
+-- those that are called on a period
+pub data Function : Type 0 where
+  opening : Function
+  day : Function
+  day-of : Function
+  closing : Function
+
+abbrev pub compiled : Function → Compiled
+compiled opening =
+    record { ended = opening-fn.ended; clauses = opening-fn.clauses; routine = opening-code.routine; statement = opening-stated.statement }
+compiled day = record { ended = day-fn.ended; clauses = day-fn.clauses; routine = day-code.routine; statement = day-stated.statement }
+compiled day-of =
+    record { ended = day-of-fn.ended; clauses = day-of-fn.clauses; routine = day-of-code.routine; statement = day-of-stated.statement }
+compiled closing =
+    record { ended = closing-fn.ended; clauses = closing-fn.clauses; routine = closing-code.routine; statement = closing-stated.statement }
+
+-- ---- their calls
+
+-- A call as the logic has it: its lifetimes, its arguments, its result, and what its parameters refer to at exit.
+pub record CallOf (f : Compiled) : Type 0 where
+  pub κs : Lfts (f .ended .signature .lifetimes)
+  pub arguments : Args (f .ended .signature) κs
+  pub result : Res (f .ended .signature) κs
+  pub exit : AtExit (f .ended) κs
+
+-- The period that a call was given, and the call in plain values. `day_of` is a day call like `day`.
+abbrev pub inPlain : (f : Function) → CallOf (compiled f) → Period × Made
+inPlain opening c =
+    let (self, (n, (k, (groups, _)))) = c .arguments in
+    (self, record { asked = Asked.opening (brought n k (now groups)); reply = c .result; after = [] })
+inPlain day c =
+    let (self, (number, (headings, (npvs, (margins, (extras, (out, _))))))) = c .arguments in
+    let (_, (_, (_, (_, (_, (_, (after, _))))))) = c .exit in
+    let d = dayBrought number (now headings) (now npvs) (now margins) (now extras) in
+    (self, record { asked = Asked.day d (now out); reply = c .result; after = now after })
+inPlain day-of c =
+    let (self, (number, (headings, (count, (npvs, (margins, (extras, (out, _)))))))) = c .arguments in
+    let (_, (_, (_, (_, (_, (_, (_, (after, _)))))))) = c .exit in
+    let d = dayBrought number (take count headings) (now npvs) (now margins) (now extras) in
+    (self, record { asked = Asked.day d (now out); reply = c .result; after = now after })
+inPlain closing c =
+    let (self, (out, _)) = c .arguments in
+    let (_, (after, _)) = c .exit in
+    (self, record { asked = Asked.closing (now out); reply = c .result; after = now after })
+
+-- a call of any of them
+pub record Called : Type 0 where
+  pub function : Function
+  pub call : CallOf (compiled function)
+
 abbrev pub given : Called → Period
-given (opening κs a r e) = a .0
-given (day κs a r e) = a .0
-given (day-of κs a r e) = a .0
-given (closing κs a r e) = a .0
+given c = inPlain (c .function) (c .call) .0
 
--- The call in plain values. The places of `day` are 0 self, 1 number, 2 headings, 3 NPVs, 4 margins, 5 extras, 6 out; `day_of` has the
--- headings' array at 2 and their number at 3, and is a day call like the other.
 abbrev pub madeOf : Called → Made
-madeOf (opening κs a r e) = Made.opening (brought (a .1 .0) (a .1 .1 .0) (now (a .1 .1 .1 .0))) r
-madeOf (day κs a r e) =
-    Made.day
-    (dayBrought (a .1 .0) (now (a .1 .1 .0)) (now (a .1 .1 .1 .0)) (now (a .1 .1 .1 .1 .0)) (now (a .1 .1 .1 .1 .1 .0)))
-    (now (a .1 .1 .1 .1 .1 .1 .0))
-    r
-    (now (e .1 .1 .1 .1 .1 .1 .0))
-madeOf (day-of κs a r e) =
-    Made.day
-    (dayBrought (a .1 .0) (take (a .1 .1 .1 .0) (a .1 .1 .0)) (now (a .1 .1 .1 .1 .0)) (now (a .1 .1 .1 .1 .1 .0)) (now (a .1 .1 .1 .1 .1 .1 .0)))
-    (now (a .1 .1 .1 .1 .1 .1 .1 .0))
-    r
-    (now (e .1 .1 .1 .1 .1 .1 .1 .0))
-madeOf (closing κs a r e) = Made.closing (now (a .1 .0)) r (now (e .1 .0))
+madeOf c = inPlain (c .function) (c .call) .1
 
--- the period that it handed back
-abbrev pub handedBack : Called → Period
-handedBack c = replyOf (madeOf c) .period
+-- the `ensures` of clauses C holds of a call; by `clauses` below the ghost is one of no content
+abbrev pub EnsuredBy : {M : Type 1} (𝓤 : URA M) {f : Compiled} (c : CallOf f) → ClausesAt 𝓤 (f .ended) (c .κs) → Type 1
+EnsuredBy 𝓤 c C = (ghost : C .ghost) × Ensured 𝓤 (C .ensures ghost (c .result) (c .exit))
 
--- what its contract's `requires` and `ensures` say, as they were generated from the code
 module _ {M : Type 1} (𝓤 : URA M) (H : Heap 𝓤) (A : Atoms 𝓤) (mem : Memory → SProp 𝓤) (run : Routine → Fun 𝓤) where
-  abbrev pub requiresOf : Called → SProp 𝓤
-  requiresOf (opening κs a r e) = opening-fn.clauses 𝓤 H A mem run κs a .requires tt
-  requiresOf (day κs a r e) = day-fn.clauses 𝓤 H A mem run κs a .requires tt
-  requiresOf (day-of κs a r e) = day-of-fn.clauses 𝓤 H A mem run κs a .requires tt
-  requiresOf (closing κs a r e) = closing-fn.clauses 𝓤 H A mem run κs a .requires tt
+  -- a call meets its own `ensures`, as generated from the code
+  abbrev pub Kept : {f : Compiled} → CallOf f → Type 1
+  Kept {f} c = EnsuredBy 𝓤 c (f .clauses 𝓤 H A mem run (c .κs) (c .arguments))
 
-  abbrev pub ensuresOf : Called → SProp 𝓤
-  ensuresOf (opening κs a r e) = opening-fn.clauses 𝓤 H A mem run κs a .ensures tt r e
-  ensuresOf (day κs a r e) = day-fn.clauses 𝓤 H A mem run κs a .ensures tt r e
-  ensuresOf (day-of κs a r e) = day-of-fn.clauses 𝓤 H A mem run κs a .ensures tt r e
-  ensuresOf (closing κs a r e) = closing-fn.clauses 𝓤 H A mem run κs a .ensures tt r e
-
-  -- "where each gets the period that the one before returned": compiled calls from period p on, each of which meets its own `ensures`
+  -- "where each gets the period that the one before returned": compiled calls from period p on, each of which meets its `ensures`
   abbrev pub Linked : Period → List Called → Type 1
   Linked p [] = Unit {1}
-  Linked p (c ∷ cs) = (given c ≡ p) × Ensured 𝓤 (ensuresOf c) × Linked (handedBack c) cs
+  Linked p (c ∷ cs) = (given c ≡ p) × Kept (c .call) × Linked (madeOf c .reply .period) cs
 
   -- such a list from a period that `fresh` returned, by `fresh`'s own `ensures`
   pub record FromFresh (cs : List Called) : Type 1 where
-    pub κs : Lfts 0
-    pub arguments : Args fresh-fn.signature κs
-    pub period : Res fresh-fn.signature κs
-    pub exit : AtExit fresh-fn.ended κs
-    pub ensured : Ensured 𝓤 (fresh-fn.clauses 𝓤 H A mem run κs arguments .ensures tt period exit)
-    pub linked : Linked period cs
+    pub first : CallOf fresh
+    pub kept : Kept first
+    pub linked : Linked (first .result) cs
 
--- what the machine does on a call of each function
-module _ {M : Type 1} (𝓤 : URA M) (H : Heap 𝓤) (𝓜 : Model 𝓤 H) (𝓖 : GhostRules 𝓤 H) (𝓡 : Running 𝓤 H 𝓜) where
-  pub record CallsReturn : Type 2 where
-    pub fresh : Returns 𝓤 H 𝓜 𝓖 𝓡 fresh-fn.ended (fresh-fn.clauses 𝓤 H) fresh-code.routine
-    pub opening : Returns 𝓤 H 𝓜 𝓖 𝓡 opening-fn.ended (opening-fn.clauses 𝓤 H) opening-code.routine
-    pub day : Returns 𝓤 H 𝓜 𝓖 𝓡 day-fn.ended (day-fn.clauses 𝓤 H) day-code.routine
-    pub day-of : Returns 𝓤 H 𝓜 𝓖 𝓡 day-of-fn.ended (day-of-fn.clauses 𝓤 H) day-of-code.routine
-    pub closing : Returns 𝓤 H 𝓜 𝓖 𝓡 closing-fn.ended (closing-fn.clauses 𝓤 H) closing-code.routine
+-- ---- the claim
+
+-- Of a compiled function, of whose calls its `ensures` says `Says`.
+pub record Upholds (f : Compiled) (Says : CallOf f → Type 0) : Type 2 where
+  -- It meets its contract: it ends, on every call, without a panic, and does what its clauses say.
+  pub met : {M : Type 1} → f .statement M
+  -- So the machine, in every model of it: a call from a memory in which its arguments stand ends, with a result and exits of which its
+  -- `ensures` holds.
+  pub returns :
+      {M : Type 1} (𝓤 : URA M) (H : Heap 𝓤) (𝓜 : Model 𝓤 H) (𝓖 : GhostRules 𝓤 H) (𝓡 : Running 𝓤 H 𝓜)
+      → Returns 𝓤 H 𝓜 𝓖 𝓡 (f .ended) (f .clauses 𝓤 H) (f .routine)
+  -- Its clauses, whole: no ghost, nothing required, and `Says` ensured.
+  pub clauses :
+      {M : Type 1} (𝓤 : URA M) (H : Heap 𝓤) (A : Atoms 𝓤) (mem : Memory → SProp 𝓤) (run : Routine → Fun 𝓤)
+      (κs : Lfts (f .ended .signature .lifetimes)) (a : Args (f .ended .signature) κs)
+      → f .clauses 𝓤 H A mem run κs a
+      ≡ record {
+        ghost = Unit {0};
+        requires = λ _. connectives 𝓤 .⊤ₛ;
+        ensures = λ _ r e. fact 𝓤 (Says (record { κs = κs; arguments = a; result = r; exit = e }));
+      }
+
+-- what each function that is called on a period promises of a call
+abbrev pub Promised : (f : Function) → CallOf (compiled f) → Type 0
+Promised f c =
+    let (p, m) = inPlain f c in
+    Meets p (m .asked) (m .reply) (m .after)
 
 pub record Demand3 : Type 2 where
   -- demand 3 of every list of calls from a fresh period, each with the period that the one before returned
-  pub every-list : (cs : List Made) → Run freshPeriod cs → Holds start cs
+  pub every-list : (cs : List Made) → MadeOn freshPeriod cs → Holds start cs
   -- "Where the last call is an accepted closing": `Covers`, of the register kept from all of them. Accepted means by the register; by
   -- `every-list` the closing then says so.
   pub last-closing :
-      (cs : List Made) (out : List ℕ) (r : Reply) (after : List ℕ) → Run freshPeriod (cs ++ (Made.closing out r after ∷ []))
-      → refusal (registerAfter start cs) (Call.closing (length out)) ≡ Clear
-      → Covers (registerAfter start (cs ++ (Made.closing out r after ∷ []))) (answerOf (r .outcome)) after
-  -- It is not about nothing: every list of arguments has a run, of numbers that fit 64 bits.
-  pub every-list-runs : (arguments : List Asked) → HasRun freshPeriod arguments
+      (cs : List Made) (c : Made) (out : List ℕ) → c .asked ≡ Asked.closing out → MadeOn freshPeriod (cs ++ (c ∷ []))
+      → refusal (registerAfter start cs) (callOf (c .asked)) ≡ Clear
+      → Covers (registerAfter start (cs ++ (c ∷ []))) (answerOf (c .reply .outcome)) (c .after)
+  -- It is not about nothing: calls with any arguments can be made, of numbers that fit 64 bits.
+  pub every-list-can-be-made : (arguments : List Asked) → CanBeMade freshPeriod arguments
   pub fresh-narrow : Narrow freshPeriod
-  -- It is about the program. The compiled functions meet their contracts: each ends, on every call, without a panic, and does what its
-  -- clauses say.
-  pub fresh-met : {M : Type 1} → fresh-stated.statement M
-  pub opening-met : {M : Type 1} → opening-stated.statement M
-  pub day-met : {M : Type 1} → day-stated.statement M
-  pub day-of-met : {M : Type 1} → day-of-stated.statement M
-  pub closing-met : {M : Type 1} → closing-stated.statement M
-  -- So the machine, in every model of it: a call from a memory in which its arguments stand ends, with a result and exits of which its
-  -- `ensures` holds.
-  pub calls-return :
-      {M : Type 1} (𝓤 : URA M) (H : Heap 𝓤) (𝓜 : Model 𝓤 H) (𝓖 : GhostRules 𝓤 H) (𝓡 : Running 𝓤 H 𝓜) → CallsReturn 𝓤 H 𝓜 𝓖 𝓡
-  -- The clauses: `fresh` ensures the fresh period, a call ensures `Meets`, and none requires anything.
-  pub fresh-ensures :
-      {M : Type 1} (𝓤 : URA M) (H : Heap 𝓤) (A : Atoms 𝓤) (mem : Memory → SProp 𝓤) (run : Routine → Fun 𝓤)
-      (κs : Lfts 0) (a : Args fresh-fn.signature κs) (p : Res fresh-fn.signature κs) (e : AtExit fresh-fn.ended κs)
-      → fresh-fn.clauses 𝓤 H A mem run κs a .ensures tt p e ≡ fact 𝓤 (p ≡ freshPeriod)
-  pub fresh-requires :
-      {M : Type 1} (𝓤 : URA M) (H : Heap 𝓤) (A : Atoms 𝓤) (mem : Memory → SProp 𝓤) (run : Routine → Fun 𝓤)
-      (κs : Lfts 0) (a : Args fresh-fn.signature κs)
-      → fresh-fn.clauses 𝓤 H A mem run κs a .requires tt ≡ connectives 𝓤 .⊤ₛ
-  pub calls-ensure :
-      {M : Type 1} (𝓤 : URA M) (H : Heap 𝓤) (A : Atoms 𝓤) (mem : Memory → SProp 𝓤) (run : Routine → Fun 𝓤) (c : Called)
-      → ensuresOf 𝓤 H A mem run c ≡ fact 𝓤 (Meets (given c) (madeOf c))
-  pub calls-require :
-      {M : Type 1} (𝓤 : URA M) (H : Heap 𝓤) (A : Atoms 𝓤) (mem : Memory → SProp 𝓤) (run : Routine → Fun 𝓤) (c : Called)
-      → requiresOf 𝓤 H A mem run c ≡ connectives 𝓤 .⊤ₛ
+  -- It is about the program: `fresh` ensures the fresh period, and a call `Meets`.
+  pub fresh-upholds : Upholds fresh (λ c. c .result ≡ freshPeriod)
+  pub calls-uphold : (f : Function) → Upholds (compiled f) (Promised f)
   -- So demand 3 holds of every list of compiled calls from `fresh` on, in every model of the logic; and where the last of them is an
   -- accepted closing, `Covers`.
   pub compiled-lists :
@@ -171,68 +192,80 @@ pub record Demand3 : Type 2 where
       (cs : List Called) → FromFresh 𝓤 H A mem run cs → Holds start (map madeOf cs)
   pub compiled-closing :
       {M : Type 1} (𝓤 : URA M) (H : Heap 𝓤) (A : Atoms 𝓤) (mem : Memory → SProp 𝓤) (run : Routine → Fun 𝓤)
-      (cs : List Called) (κs : Lfts 1) (a : Args closing-fn.signature κs) (r : Res closing-fn.signature κs) (e : AtExit closing-fn.ended κs)
-      → FromFresh 𝓤 H A mem run (cs ++ (closing κs a r e ∷ []))
-      → refusal (registerAfter start (map madeOf cs)) (Call.closing (length (now (a .1 .0)))) ≡ Clear
-      → Covers (registerAfter start (map madeOf (cs ++ (closing κs a r e ∷ [])))) (answerOf (r .outcome)) (now (e .1 .0))
+      (cs : List Called) (c : Called) (out : List ℕ) → madeOf c .asked ≡ Asked.closing out → FromFresh 𝓤 H A mem run (cs ++ (c ∷ []))
+      → refusal (registerAfter start (map madeOf cs)) (callOf (madeOf c .asked)) ≡ Clear
+      → Covers (registerAfter start (map madeOf (cs ++ (c ∷ [])))) (answerOf (madeOf c .reply .outcome)) (madeOf c .after)
 
-requires-are : {M : Type 1} (𝓤 : URA M) (H : Heap 𝓤) (A : Atoms 𝓤) (mem : Memory → SProp 𝓤) (run : Routine → Fun 𝓤) (c : Called)
-    → requiresOf 𝓤 H A mem run c ≡ connectives 𝓤 .⊤ₛ
-requires-are 𝓤 H A mem run (opening κs a r e) = refl
-requires-are 𝓤 H A mem run (day κs a r e) = refl
-requires-are 𝓤 H A mem run (day-of κs a r e) = refl
-requires-are 𝓤 H A mem run (closing κs a r e) = refl
+-- ---- its proof
 
-ensures-are : {M : Type 1} (𝓤 : URA M) (H : Heap 𝓤) (A : Atoms 𝓤) (mem : Memory → SProp 𝓤) (run : Routine → Fun 𝓤) (c : Called)
-    → ensuresOf 𝓤 H A mem run c ≡ fact 𝓤 (Meets (given c) (madeOf c))
-ensures-are 𝓤 H A mem run (opening κs a r e) = refl
-ensures-are 𝓤 H A mem run (day κs a r e) = refl
-ensures-are 𝓤 H A mem run (day-of κs a r e) = refl
-ensures-are 𝓤 H A mem run (closing κs a r e) = refl
+fresh-does : Upholds fresh (λ c. c .result ≡ freshPeriod)
+fresh-does =
+    record {
+      met = fresh-proved.met;
+      returns = λ 𝓤 H 𝓜 𝓖 𝓡. returns 𝓤 H 𝓜 𝓖 𝓡 fresh-fn.ended (fresh-fn.clauses 𝓤 H) fresh-code.routine (fresh-proved.met 𝓤 H 𝓜 𝓖 𝓡);
+      clauses = λ 𝓤 H A mem run κs a. refl;
+    }
 
--- a list of compiled calls is a run
+upholds : (f : Function) → Upholds (compiled f) (Promised f)
+upholds opening =
+    record {
+      met = opening-proved.met;
+      returns = λ 𝓤 H 𝓜 𝓖 𝓡. returns 𝓤 H 𝓜 𝓖 𝓡 opening-fn.ended (opening-fn.clauses 𝓤 H) opening-code.routine (opening-proved.met 𝓤 H 𝓜 𝓖 𝓡);
+      clauses =
+          λ 𝓤 H A mem run κs (self, (n, (k, (groups, _)))) i.
+          let o = brought n k (now groups) in
+          record { ghost = Unit {0}; requires = λ _. connectives 𝓤 .⊤ₛ; ensures = λ _ r e. fact 𝓤 (no-buffer (opening-prop self o r) i) };
+    }
+upholds day =
+    record {
+      met = day-proved.met;
+      returns = λ 𝓤 H 𝓜 𝓖 𝓡. returns 𝓤 H 𝓜 𝓖 𝓡 day-fn.ended (day-fn.clauses 𝓤 H) day-code.routine (day-proved.met 𝓤 H 𝓜 𝓖 𝓡);
+      clauses = λ 𝓤 H A mem run κs a. refl;
+    }
+upholds day-of =
+    record {
+      met = day-of-proved.met;
+      returns = λ 𝓤 H 𝓜 𝓖 𝓡. returns 𝓤 H 𝓜 𝓖 𝓡 day-of-fn.ended (day-of-fn.clauses 𝓤 H) day-of-code.routine (day-of-proved.met 𝓤 H 𝓜 𝓖 𝓡);
+      clauses = λ 𝓤 H A mem run κs a. refl;
+    }
+upholds closing =
+    record {
+      met = closing-proved.met;
+      returns = λ 𝓤 H 𝓜 𝓖 𝓡. returns 𝓤 H 𝓜 𝓖 𝓡 closing-fn.ended (closing-fn.clauses 𝓤 H) closing-code.routine (closing-proved.met 𝓤 H 𝓜 𝓖 𝓡);
+      clauses = λ 𝓤 H A mem run κs a. refl;
+    }
+
+-- compiled calls are calls that were made
 module _ {M : Type 1} (𝓤 : URA M) (H : Heap 𝓤) (A : Atoms 𝓤) (mem : Memory → SProp 𝓤) (run : Routine → Fun 𝓤) where
-  met-by : (c : Called) → Ensured 𝓤 (ensuresOf 𝓤 H A mem run c) → Meets (given c) (madeOf c)
-  met-by c h =
-      fact-holds 𝓤 (Meets (given c) (madeOf c)) (meets-prop (given c) (madeOf c)) (subst (Ensured 𝓤) (ensures-are 𝓤 H A mem run c) h)
+  kept-says : {f : Compiled} {Says : CallOf f → Type 0} → Upholds f Says → (c : CallOf f) → IsProp (Says c) → Kept 𝓤 H A mem run c → Says c
+  kept-says {f} {Says} u c prop k =
+      fact-holds 𝓤 (Says c) prop (subst (EnsuredBy 𝓤 c) (u .clauses 𝓤 H A mem run (c .κs) (c .arguments)) k .1)
 
-  linked-run : (p : Period) (cs : List Called) → Linked 𝓤 H A mem run p cs → Run p (map madeOf cs)
-  linked-run p [] l = tt
-  linked-run p (c ∷ cs) (g, h, l) = (subst (λ (q : Period). Meets q (madeOf c)) g (met-by c h), linked-run (handedBack c) cs l)
+  linked-made : (p : Period) (cs : List Called) → Linked 𝓤 H A mem run p cs → MadeOn p (map madeOf cs)
+  linked-made p [] l = tt
+  linked-made p (c ∷ cs) (g, k, l) =
+      let m = madeOf c in
+      let met = kept-says (upholds (c .function)) (c .call) (meets-prop (given c) (m .asked) (m .reply) (m .after)) k in
+      (subst (λ (q : Period). Meets q (m .asked) (m .reply) (m .after)) g met, linked-made (m .reply .period) cs l)
 
-  fresh-run : (cs : List Called) → FromFresh 𝓤 H A mem run cs → Run freshPeriod (map madeOf cs)
-  fresh-run cs f =
-      let is-fresh = fact-holds 𝓤 (f .period ≡ freshPeriod) (period-set (f .period) freshPeriod) (f .ensured) in
-      subst (λ (p : Period). Run p (map madeOf cs)) is-fresh (linked-run (f .period) cs (f .linked))
+  fresh-made : (cs : List Called) → FromFresh 𝓤 H A mem run cs → MadeOn freshPeriod (map madeOf cs)
+  fresh-made cs f =
+      let is-fresh = kept-says fresh-does (f .first) (period-set (f .first .result) freshPeriod) (f .kept) in
+      subst (λ (p : Period). MadeOn p (map madeOf cs)) is-fresh (linked-made (f .first .result) cs (f .linked))
 
 pub demand-3 : Demand3
 demand-3 =
     record {
       every-list = holds starts;
       last-closing = last-closing starts;
-      every-list-runs = has-run narrow-fresh;
+      every-list-can-be-made = can-be-made narrow-fresh;
       fresh-narrow = narrow-fresh;
-      fresh-met = fresh-proved.met;
-      opening-met = opening-proved.met;
-      day-met = day-proved.met;
-      day-of-met = day-of-proved.met;
-      closing-met = closing-proved.met;
-      calls-return =
-          λ 𝓤 H 𝓜 𝓖 𝓡. record {
-            fresh = returns 𝓤 H 𝓜 𝓖 𝓡 fresh-fn.ended (fresh-fn.clauses 𝓤 H) fresh-code.routine (fresh-proved.met 𝓤 H 𝓜 𝓖 𝓡);
-            opening = returns 𝓤 H 𝓜 𝓖 𝓡 opening-fn.ended (opening-fn.clauses 𝓤 H) opening-code.routine (opening-proved.met 𝓤 H 𝓜 𝓖 𝓡);
-            day = returns 𝓤 H 𝓜 𝓖 𝓡 day-fn.ended (day-fn.clauses 𝓤 H) day-code.routine (day-proved.met 𝓤 H 𝓜 𝓖 𝓡);
-            day-of = returns 𝓤 H 𝓜 𝓖 𝓡 day-of-fn.ended (day-of-fn.clauses 𝓤 H) day-of-code.routine (day-of-proved.met 𝓤 H 𝓜 𝓖 𝓡);
-            closing = returns 𝓤 H 𝓜 𝓖 𝓡 closing-fn.ended (closing-fn.clauses 𝓤 H) closing-code.routine (closing-proved.met 𝓤 H 𝓜 𝓖 𝓡);
-          };
-      fresh-ensures = λ 𝓤 H A mem run κs a p e. refl;
-      fresh-requires = λ 𝓤 H A mem run κs a. refl;
-      calls-ensure = ensures-are;
-      calls-require = requires-are;
-      compiled-lists = λ 𝓤 H A mem run cs f. holds starts (map madeOf cs) (fresh-run 𝓤 H A mem run cs f);
+      fresh-upholds = fresh-does;
+      calls-uphold = upholds;
+      compiled-lists = λ 𝓤 H A mem run cs f. holds starts (map madeOf cs) (fresh-made 𝓤 H A mem run cs f);
       compiled-closing =
-          λ 𝓤 H A mem run cs κs a r e f k.
-          let split = map-append madeOf cs (closing κs a r e ∷ []) in
-          let made = subst (Run freshPeriod) split (fresh-run 𝓤 H A mem run (cs ++ (closing κs a r e ∷ [])) f) in
-          rw split (last-closing starts (map madeOf cs) (now (a .1 .0)) r (now (e .1 .0)) made k);
+          λ 𝓤 H A mem run cs c out is f e.
+          let split = map-append madeOf cs (c ∷ []) in
+          let made = subst (MadeOn freshPeriod) split (fresh-made 𝓤 H A mem run (cs ++ (c ∷ [])) f) in
+          rw split (last-closing starts (map madeOf cs) (madeOf c) out is made e);
     }

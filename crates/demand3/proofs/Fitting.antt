@@ -1,6 +1,6 @@
 -- Every number that a contract names fits 64 bits, on any period: a row's number and index, a day's figures by the bound of T, a closing's
 -- by the range of an open period.
-use mathlib.Core.Path.{_≡_, refl, sym, ap, ap₂, subst, _∙_}
+use mathlib.Core.Path.{_≡_, refl, sym, ap, subst, _∙_}
 use mathlib.Core.Bool.{Bool, true, false, not, _||_}
 use mathlib.Core.List.{List, [], _∷_, flatMap}
 use Prim.Native.Nat.{ℕ, _+_, _*_, _≤_, _<_}
@@ -33,6 +33,7 @@ use Rattle.exposure.proofs.MaxTotal.{loss-le-total, max-le-total}
 use Rattle.period.specs.declared.Period.{Period}
 use Rattle.period.specs.declared.Outcome.{Outcome}
 use Rattle.period.specs.declared.Outcome.the-variants as says
+use Rattle.period.specs.declared.Reply.{Reply}
 use Rattle.period.specs.Reading.{answerOf}
 use Rattle.period.specs.Calls.{freshPeriod, held, inRange, statusOf, openingRow, openedPeriod, accountsBrought, dayRow, shareAt, sizedPeriod, closingRow, sumsHeld, chargeBy, closedPeriod}
 use Rattle.period.specs.Rows.{Passes}
@@ -41,8 +42,8 @@ use Rattle.period.proofs.Sizing.{accounts-long, room-long, total-few}
 use Rattle.period.proofs.Closings.{Closable, closable, in-range}
 use Rattle.period.proofs.Reach.{passes, sized-in-range}
 use Rattle.demand3.proofs.Covering.{three-wide}
-use Rattle.demand3.specs.Runs.{Asked, Made, argumentsOf, Meets}
-use Rattle.demand3.specs.Demand3.{Fits64, numbersIn, Narrow, Fits, HasRun}
+use Rattle.demand3.specs.Made.{Asked, Meets}
+use Rattle.demand3.specs.Demand3.{Fits64, numbersIn, Narrow, Fits, CanBeMade}
 
 -- ---- rows
 
@@ -230,16 +231,16 @@ answer-fits Clear figures h f = f refl
 answer-fits (Row number) figures h f = (h, tt)
 answer-fits (RowAt number index) figures (h, i) f = (h, (i, tt))
 
-pub fits : {p : Period} → Narrow p → (c : Made) → Meets p c → Fits c
+pub fits : {p : Period} → Narrow p → (a : Asked) (r : Reply) (after : List ℕ) → Meets p a r after → Fits (record { asked = a; reply = r; after = after })
 unfolding openingRow openingRefusal
-fits {p} q (Made.opening o r) m =
+fits {p} q (Asked.opening o) r after (m, none) =
     record {
       answer = rw (m .answer) (answer-fits (openingRow p o) [] (opening-row-fits p o) (λ e. tt));
       period = subst Narrow (sym (m .period)) (either Narrow (openingRow p o) _ p (λ e. narrow-opened o (passed 1 (badOpening o) Clear (passed 2 (isOpen (statusOf p)) _ e .1) .0)) q);
-      buffer = λ b. tt;
-      long = refl;
+      buffer = λ b. rw none tt;
+      long = rw none refl;
     }
-fits {p} q (Made.day d out r after) m =
+fits {p} q (Asked.day d out) r after m =
     let x = dayRow p d (length out) in
     let pass : x ≡ Clear → Passes p d (length out) × (0 < total (held p) (accountsBrought p d)) = passes p d (length out) in
     record {
@@ -248,7 +249,7 @@ fits {p} q (Made.day d out r after) m =
       buffer = λ b. subst (Every Fits64) (sym (m .buffer)) (either (Every Fits64) x _ out (λ e. dailies-fit (held p) (accountsBrought p d) (pass e .1) (total-few (pass e .0))) b);
       long = ap length (m .buffer) ∙ either (λ (l : List ℕ). length l ≡ length out) x _ out (λ e. dailies-long (held p) (accountsBrought p d) ∙ sym (room-long (pass e .0))) refl;
     }
-fits {p} q (Made.closing out r after) m =
+fits {p} q (Asked.closing out) r after m =
     let x = closingRow p (length out) in
     let pass : x ≡ Clear → Closable p (length out) = closable p (length out) in
     record {
@@ -258,7 +259,7 @@ fits {p} q (Made.closing out r after) m =
       long = ap length (m .buffer) ∙ either (λ (l : List ℕ). length l ≡ length out) x _ out (λ e. closing-long (pass e) (q .sums-long)) refl;
     }
 
--- ---- every list of arguments has a run
+-- ---- calls with any arguments can be made
 
 -- an outcome with the answer that a contract names
 outcomeBy : Refusal → (acceptance : Outcome) → Outcome
@@ -272,41 +273,33 @@ answered Clear o figures e = e
 answered (Row number) o figures e = refl
 answered (RowAt number index) o figures e = refl
 
--- the call that a contract names, and that it meets it
-madeBy : Period → Asked → Made
-madeBy p (Asked.opening o) =
-    Made.opening o (record { outcome = outcomeBy (openingRow p o) says.Opened; period = ifAccepted (openingRow p o) (openedPeriod o) p })
-madeBy p (Asked.day d out) =
+-- the reply that a contract names, the buffer that it leaves, and that they meet it
+makes : (p : Period) (a : Asked) → (r : Reply) × (after : List ℕ) × Meets p a r after
+makes p (Asked.opening o) =
+    let x = openingRow p o in
+    let r : Reply = record { outcome = outcomeBy x says.Opened; period = ifAccepted x (openedPeriod o) p } in
+    (r, [], (record { answer = answered x _ _ refl; period = refl }, refl))
+makes p (Asked.day d out) =
     let x = dayRow p d (length out) in
     let accts = accountsBrought p d in
-    Made.day d out (record { outcome = outcomeBy x (says.Sized (total (held p) accts) (maxEul (held p) accts)); period = ifAccepted x (sizedPeriod p d) p }) (ifAccepted x (dailies (held p) accts) out)
-madeBy p (Asked.closing out) =
+    let sized = says.Sized (total (held p) accts) (maxEul (held p) accts) in
+    let r : Reply = record { outcome = outcomeBy x sized; period = ifAccepted x (sizedPeriod p d) p } in
+    (r, ifAccepted x (dailies (held p) accts) out, record { answer = answered x _ _ refl; period = refl; buffer = refl })
+makes p (Asked.closing out) =
     let x = closingRow p (length out) in
-    Made.closing out
-    (record { outcome = outcomeBy x (says.Closed (p .days) (p .highest) (Σ (sumsHeld p) (λ s. funded (chargeBy p s)))); period = ifAccepted x (closedPeriod p) p })
-    (ifAccepted x (flatMap (λ s. three (chargeBy p s)) (sumsHeld p)) out)
+    let closed = says.Closed (p .days) (p .highest) (Σ (sumsHeld p) (λ s. funded (chargeBy p s))) in
+    let r : Reply = record { outcome = outcomeBy x closed; period = ifAccepted x (closedPeriod p) p } in
+    (r, ifAccepted x (flatMap (λ s. three (chargeBy p s)) (sumsHeld p)) out, record { answer = answered x _ _ refl; period = refl; buffer = refl })
 
-meets : (p : Period) (a : Asked) → Meets p (madeBy p a)
-unfolding madeBy
-meets p (Asked.opening o) = record { answer = answered (openingRow p o) _ _ refl; period = refl }
-meets p (Asked.day d out) = record { answer = answered (dayRow p d (length out)) _ _ refl; period = refl; buffer = refl }
-meets p (Asked.closing out) = record { answer = answered (closingRow p (length out)) _ _ refl; period = refl; buffer = refl }
-
-asked-is : (p : Period) (a : Asked) → argumentsOf (madeBy p a) ≡ a
-unfolding madeBy
-asked-is p (Asked.opening o) = refl
-asked-is p (Asked.day d out) = refl
-asked-is p (Asked.closing out) = refl
-
-pub has-run : {p : Period} → Narrow p → (arguments : List Asked) → HasRun p arguments
-has-run q [] = record { made = []; same = refl; run = tt; fits = tt }
-has-run {p} q (a ∷ rest) =
-    let m = meets p a in
-    let f = fits q (madeBy p a) m in
-    let t = has-run (f .period) rest in
+pub can-be-made : {p : Period} → Narrow p → (arguments : List Asked) → CanBeMade p arguments
+can-be-made q [] = record { calls = []; same = refl; made = tt; fits = tt }
+can-be-made {p} q (a ∷ rest) =
+    let (r, after, m) = makes p a in
+    let f = fits q a r after m in
+    let t = can-be-made (f .period) rest in
     record {
-      made = madeBy p a ∷ t .made;
-      same = ap₂ (λ (x : Asked) (l : List Asked). x ∷ l) (asked-is p a) (t .same);
-      run = (m, t .run);
+      calls = record { asked = a; reply = r; after = after } ∷ t .calls;
+      same = ap (λ (l : List Asked). a ∷ l) (t .same);
+      made = (m, t .made);
       fits = (f, t .fits);
     }

@@ -18,7 +18,7 @@ use Rattle.period.specs.declared.Reply.{Reply}
 use Rattle.period.specs.Reading.{answerOf}
 use Rattle.period.specs.Follows.{Good, Follows}
 use Rattle.period.proofs.Simulation.{opening-follows, day-follows, closing-follows}
-use Rattle.demand3.specs.Runs.{Made, replyOf, callOf, Meets, Run}
+use Rattle.demand3.specs.Made.{Asked, Made, callOf, Meets, MadeOn}
 use Rattle.demand3.specs.Demand3.{Agrees, Covers, AtClosing, Holds, registerAfter}
 use Rattle.demand3.proofs.Covering.{covers}
 
@@ -41,36 +41,43 @@ days-kept g room e =
     let some = eqb-false (length (g .days)) 0 z in
     rw e (omega arith)
 
-closes : (g : Register) (out after : List ℕ) (r : Reply) → Agrees g (Made.closing out r after) → Good (step g (Call.closing (length out))) → AtClosing g (Made.closing out r after)
+closes : (g : Register) (c : Made) → Agrees g c → Good (step g (callOf (c .asked))) → AtClosing g c
 unfolding answer buffer
-closes g out after r a q e =
+closes g c a q out is e =
     let k = Call.closing (length out) in
-    let said : answerOf (r .outcome) ≡ accepted (returned (step g k) k) = a .answer ∙ rw e in
-    let wrote : after ≡ written (step g k) k = a .buffer ∙ rw e in
-    rw (said, wrote) (covers (step g k) (length out) (q .counted) (days-kept g (length out) e))
+    let clear : refusal g k ≡ Clear = rw is at e in
+    let said : answerOf (c .reply .outcome) ≡ accepted (returned (step g k) k) = a .answer ∙ rw (is, clear) in
+    let wrote : c .after ≡ written (step g k) k = a .buffer ∙ rw (is, clear) in
+    rw (said, wrote, is) (covers (step g k) (length out) (rw is at (q .counted)) (days-kept g (length out) clear))
 
--- one call
-pub one : {g : Register} {p : Period} → Follows g p → (c : Made) → Meets p c → Follows (step g (callOf c)) (replyOf c .period) × Agrees g c × AtClosing g c
-one {g} f (Made.opening o r) m =
+-- one call, which the register follows
+agrees : {g : Register} {p : Period} → Follows g p → (a : Asked) (r : Reply) (after : List ℕ) → Meets p a r after
+    → Follows (step g (callOf a)) (r .period) × Agrees g (record { asked = a; reply = r; after = after })
+agrees {g} f (Asked.opening o) r after (m, none) =
     let (f′, e) = opening-follows f m in
-    (f′, record { answer = e; buffer = nothing-written g o; period = f′ .is }, tt)
-one {g} f (Made.day d out r after) m =
+    (f′, record { answer = e; buffer = none ∙ nothing-written g o; period = f′ .is })
+agrees f (Asked.day d out) r after m =
     let (f′, e, w) = day-follows f m in
-    (f′, record { answer = e; buffer = w; period = f′ .is }, tt)
-one {g} f (Made.closing out r after) m =
+    (f′, record { answer = e; buffer = w; period = f′ .is })
+agrees f (Asked.closing out) r after m =
     let (f′, e, w) = closing-follows f m in
-    let a : Agrees g (Made.closing out r after) = record { answer = e; buffer = w; period = f′ .is } in
-    (f′, a, closes g out after r a (f′ .good))
+    (f′, record { answer = e; buffer = w; period = f′ .is })
 
-pub holds : {g : Register} {p : Period} → Follows g p → (cs : List Made) → Run p cs → Holds g cs
+pub one : {g : Register} {p : Period} → Follows g p → (c : Made) → Meets p (c .asked) (c .reply) (c .after)
+    → Follows (step g (callOf (c .asked))) (c .reply .period) × Agrees g c × AtClosing g c
+one {g} f c m =
+    let (f′, a) = agrees f (c .asked) (c .reply) (c .after) m in
+    (f′, a, closes g c a (f′ .good))
+
+pub holds : {g : Register} {p : Period} → Follows g p → (cs : List Made) → MadeOn p cs → Holds g cs
 holds f [] m = tt
 holds f (c ∷ cs) (m, ms) =
     let (f′, a, k) = one f c m in
     (a, k, holds f′ cs ms)
 
 -- where the last call is an accepted closing
-pub last-closing : {g : Register} {p : Period} → Follows g p → (cs : List Made) (out : List ℕ) (r : Reply) (after : List ℕ)
-    → Run p (cs ++ (Made.closing out r after ∷ [])) → refusal (registerAfter g cs) (Call.closing (length out)) ≡ Clear
-    → Covers (registerAfter g (cs ++ (Made.closing out r after ∷ []))) (answerOf (r .outcome)) after
-last-closing f [] out r after (m, _) e = one f (Made.closing out r after) m .2 e
-last-closing f (c ∷ cs) out r after (m, ms) e = last-closing (one f c m .0) cs out r after ms e
+pub last-closing : {g : Register} {p : Period} → Follows g p → (cs : List Made) (c : Made) (out : List ℕ) → c .asked ≡ Asked.closing out
+    → MadeOn p (cs ++ (c ∷ [])) → refusal (registerAfter g cs) (callOf (c .asked)) ≡ Clear
+    → Covers (registerAfter g (cs ++ (c ∷ []))) (answerOf (c .reply .outcome)) (c .after)
+last-closing f [] c out is (m, _) e = one f c m .2 out is e
+last-closing f (b ∷ cs) c out is (m, ms) e = last-closing (one f b m .0) cs c out is ms e

@@ -33,16 +33,18 @@ module _ {M : Type 1} (𝓤 : URA M) (H : Heap 𝓤) (𝓜 : Model 𝓤 H) (𝓖
   abbrev of : Clauses 𝓤 T
   of = clauses A (𝓜 .mem) (𝓡 .run)
 
-  -- x has the call's lifetimes, its arguments and their machine values. F is whatever else there is, and comes back untouched. w has what
-  -- the call's references hold at exit: it stands in the memory after the call, and the `ensures` speaks of it.
+  -- x has the call's lifetimes κs, their shares qs, its arguments a and their machine values vs. F is whatever else there is, and comes
+  -- back untouched. w has what the call's references hold at exit: it stands in the memory after the call, and the `ensures` speaks of it.
   abbrev pub Returns : Type 2
   Returns =
-      (x : Bound 𝓤 H A (T .signature)) (g : of (x .0) (x .3) .ghost) (σ : Memory) (F : SProp 𝓤)
-      → Satisfies 𝓤 H 𝓜 σ ((onEntry 𝓤 H A (T .signature) (x .0) (x .1) (x .3) (x .4) ∗ of (x .0) (x .3) .requires g) ∗ F)
+      (x : Bound 𝓤 H A (T .signature)) →
+      let (κs, qs, _, a, vs) = x in
+      (g : of κs a .ghost) (σ : Memory) (F : SProp 𝓤)
+      → Satisfies 𝓤 H 𝓜 σ ((onEntry 𝓤 H A (T .signature) κs qs a vs ∗ of κs a .requires g) ∗ F)
       → ∥ ((v : Val) × (σ′ : Memory) × ends ρ (passed 𝓤 H A (T .signature) x) σ v σ′
-      × (r : Res (T .signature) (x .0)) × (w : Lasts T (x .0) (x .3))
-      × Satisfies 𝓤 H 𝓜 σ′ (sem 𝓤 H A (lasts T (x .0) (x .3) w) ∗ (Back 𝓤 H A (T .signature) x v r ∗ F))
-      × Ensured 𝓤 (of (x .0) (x .3) .ensures g r (atExit T (x .0) (x .3) w))) ∥₁
+      × (r : Res (T .signature) κs) × (w : Lasts T κs a)
+      × Satisfies 𝓤 H 𝓜 σ′ (sem 𝓤 H A (lasts T κs a w) ∗ (Back 𝓤 H A (T .signature) x v r ∗ F))
+      × Ensured 𝓤 (of κs a .ensures g r (atExit T κs a w))) ∥₁
 
   turned : (P Q F : SProp 𝓤) → ent 𝓤 ((P ∗ Q) ∗ F) (Q ∗ (P ∗ F))
   turned P Q F = via 𝓤 ((Q ∗ P) ∗ F) (monoL 𝓤 F (comm∗ 𝓤 P Q)) (assoc∗ 𝓤 Q P F)

@@ -9,11 +9,11 @@ use Rattle.numbers.specs.Fractions.{Fraction, _over_, whole, Proper, _⊕_, _�
 use Rattle.methodology.specs.declared.Refusal.the-variants.{Clear}
 use Rattle.methodology.specs.Account.{members}
 use Rattle.methodology.specs.Contribution.{highest, exactCharge, allowance, shortfall}
-use Rattle.methodology.specs.Register.{Call, Register, refusal, step, Answer, accepted, refused, refusedAt, answer, buffer}
+use Rattle.methodology.specs.Register.{Register, refusal, step, Answer, accepted, refused, refusedAt, answer, buffer}
 use Rattle.period.specs.declared.Period.{Period}
 use Rattle.period.specs.Reading.{answerOf}
 use Rattle.period.specs.Registered.{periodOf}
-use Rattle.demand3.specs.Runs.{Asked, Made, argumentsOf, replyOf, bufferBefore, bufferAfter, callOf, Run}
+use Rattle.demand3.specs.Made.{Asked, Made, lent, callOf, MadeOn}
 
 -- ---- each call
 
@@ -22,9 +22,9 @@ use Rattle.demand3.specs.Runs.{Asked, Made, argumentsOf, replyOf, buffer
 -- arguments and the register as the call leaves it." So say `answer` and `buffer` in methodology's Register.antt. The period that comes back
 -- holds what the register holds, so that a refused call leaves it as it was (demand 1).
 pub record Agrees (g : Register) (c : Made) : Type 0 where
-  pub answer : answerOf (replyOf c .outcome) ≡ answer g (callOf c)
-  pub buffer : bufferAfter c ≡ buffer g (callOf c) (bufferBefore c)
-  pub period : replyOf c .period ≡ periodOf (step g (callOf c))
+  pub answer : answerOf (c .reply .outcome) ≡ answer g (callOf (c .asked))
+  pub buffer : c .after ≡ buffer g (callOf (c .asked)) (lent (c .asked))
+  pub period : c .reply .period ≡ periodOf (step g (callOf (c .asked)))
 
 -- ---- an accepted closing
 
@@ -63,22 +63,21 @@ pub record Covers (g : Register) (said : Answer) (out : List ℕ) : Type 0 where
 
 -- what demand 3 adds "where the last call is an accepted closing of n members"
 abbrev pub AtClosing : Register → Made → Type 0
-AtClosing g (Made.opening o r) = Unit {0}
-AtClosing g (Made.day d out r after) = Unit {0}
-AtClosing g (Made.closing out r after) =
-    refusal g (Call.closing (length out)) ≡ Clear → Covers (step g (Call.closing (length out))) (answerOf (r .outcome)) after
+AtClosing g c =
+    (out : List ℕ) → c .asked ≡ Asked.closing out → refusal g (callOf (c .asked)) ≡ Clear
+    → Covers (step g (callOf (c .asked))) (answerOf (c .reply .outcome)) (c .after)
 
 -- ---- the list
 
 -- Demand 3 of a list of calls, from register g on. It is said at every accepted closing, the last call's among them.
 abbrev pub Holds : Register → List Made → Type 0
 Holds g [] = Unit {0}
-Holds g (c ∷ cs) = Agrees g c × AtClosing g c × Holds (step g (callOf c)) cs
+Holds g (c ∷ cs) = Agrees g c × AtClosing g c × Holds (step g (callOf (c .asked))) cs
 
 -- the register after a list of calls
 abbrev pub registerAfter : Register → List Made → Register
 registerAfter g [] = g
-registerAfter g (c ∷ cs) = registerAfter (step g (callOf c)) cs
+registerAfter g (c ∷ cs) = registerAfter (step g (callOf (c .asked))) cs
 
 -- ---- that it is not about nothing
 
@@ -106,14 +105,14 @@ pub record Narrow (p : Period) : Type 0 where
 -- A call that the program can make: every number that it answers, or leaves in the period or the buffer, fits 64 bits, where those do that
 -- the buffer had, and the buffer is as long as before.
 pub record Fits (c : Made) : Type 0 where
-  pub answer : Every Fits64 (numbersIn (answerOf (replyOf c .outcome)))
-  pub period : Narrow (replyOf c .period)
-  pub buffer : Every Fits64 (bufferBefore c) → Every Fits64 (bufferAfter c)
-  pub long : length (bufferAfter c) ≡ length (bufferBefore c)
+  pub answer : Every Fits64 (numbersIn (answerOf (c .reply .outcome)))
+  pub period : Narrow (c .reply .period)
+  pub buffer : Every Fits64 (lent (c .asked)) → Every Fits64 (c .after)
+  pub long : length (c .after) ≡ length (lent (c .asked))
 
--- a run with these arguments, from period p on
-pub record HasRun (p : Period) (arguments : List Asked) : Type 0 where
-  pub made : List Made
-  pub same : map argumentsOf made ≡ arguments
-  pub run : Run p made
-  pub fits : Every Fits made
+-- calls with these arguments that can be made, from period p on
+pub record CanBeMade (p : Period) (arguments : List Asked) : Type 0 where
+  pub calls : List Made
+  pub same : map (λ c. c .asked) calls ≡ arguments
+  pub made : MadeOn p calls
+  pub fits : Every Fits calls

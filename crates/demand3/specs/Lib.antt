@@ -1,2 +1,2 @@
-pub mod Runs
+pub mod Made
 pub mod Demand3
