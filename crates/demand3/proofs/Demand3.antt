@@ -91,7 +91,7 @@ pub record CallOf (f : Compiled) : Type 0 where
   pub result : Res (f .ended .signature) κs
   pub exit : AtExit (f .ended) κs
 
--- The period that a call was given, and the call in plain values. `day_of` is a day call like `day`.
+-- The period that a call was given, and the call in plain values: which of its arguments is which. `day_of` is a day call like `day`.
 abbrev pub inPlain : (f : Function) → CallOf (compiled f) → Period × Made
 inPlain opening c =
     let (self, (n, (k, (groups, _)))) = c .arguments in
@@ -122,7 +122,7 @@ given c = inPlain (c .function) (c .call) .0
 abbrev pub madeOf : Called → Made
 madeOf c = inPlain (c .function) (c .call) .1
 
--- the `ensures` of clauses C holds of a call; by `clauses` below the ghost is one of no content
+-- the `ensures` of clauses C holds of a call; `Upholds` says that there is no choice of a ghost
 abbrev pub EnsuredBy : {M : Type 1} (𝓤 : URA M) {f : Compiled} (c : CallOf f) → ClausesAt 𝓤 (f .ended) (c .κs) → Type 1
 EnsuredBy 𝓤 c C = (ghost : C .ghost) × Ensured 𝓤 (C .ensures ghost (c .result) (c .exit))
 
@@ -144,7 +144,7 @@ module _ {M : Type 1} (𝓤 : URA M) (H : Heap 𝓤) (A : Atoms 𝓤) (mem : Mem
 
 -- ---- the claim
 
--- Of a compiled function, of whose calls its `ensures` says `Says`.
+-- What is claimed of a compiled function. `Says` is what its `ensures` says of a call.
 pub record Upholds (f : Compiled) (Says : CallOf f → Type 0) : Type 2 where
   -- It meets its contract: it ends, on every call, without a panic, and does what its clauses say.
   pub met : {M : Type 1} → f .statement M
@@ -164,7 +164,7 @@ pub record Upholds (f : Compiled) (Says : CallOf f → Type 0) : Type 2 where
         ensures = λ _ r e. fact 𝓤 (Says (record { κs = κs; arguments = a; result = r; exit = e }));
       }
 
--- what each function that is called on a period promises of a call
+-- `Meets`, of a call in plain values
 abbrev pub Promised : (f : Function) → CallOf (compiled f) → Type 0
 Promised f c =
     let (p, m) = inPlain f c in
