@@ -97,14 +97,14 @@ inPlain opening c =
     let (self, (n, (k, (groups, _)))) = c .arguments in
     (self, record { asked = Asked.opening (brought n k (now groups)); reply = c .result; after = [] })
 inPlain day c =
-    let (self, (number, (headings, (npvs, (margins, (extras, (out, _))))))) = c .arguments in
+    let (self, (terms, (headings, (npvs, (margins, (extras, (out, _))))))) = c .arguments in
     let (_, (_, (_, (_, (_, (_, (after, _))))))) = c .exit in
-    let d = dayBrought number (now headings) (now npvs) (now margins) (now extras) in
+    let d = dayBrought terms (now headings) (now npvs) (now margins) (now extras) in
     (self, record { asked = Asked.day d (now out); reply = c .result; after = now after })
 inPlain day-of c =
-    let (self, (number, (headings, (count, (npvs, (margins, (extras, (out, _)))))))) = c .arguments in
+    let (self, (terms, (headings, (count, (npvs, (margins, (extras, (out, _)))))))) = c .arguments in
     let (_, (_, (_, (_, (_, (_, (_, (after, _)))))))) = c .exit in
-    let d = dayBrought number (take count headings) (now npvs) (now margins) (now extras) in
+    let d = dayBrought terms (take count headings) (now npvs) (now margins) (now extras) in
     (self, record { asked = Asked.day d (now out); reply = c .result; after = now after })
 inPlain closing c =
     let (self, (out, _)) = c .arguments in

@@ -13,7 +13,7 @@ use base.Stored.{coded-set}
 use ghost.Sets.{retract-set}
 use contract.Monad.{fact}
 use denote.Signature.{typeAt}
-use Rattle.methodology.specs.Account.{Opening}
+use Rattle.methodology.specs.declared.Opening.{Opening}
 use Rattle.methodology.specs.Register.{Answer, accepted, refused, refusedAt}
 use Rattle.period.specs.declared.Period.{Period}
 use Rattle.period.specs.declared.Reply.{Reply}

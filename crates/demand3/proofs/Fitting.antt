@@ -21,14 +21,14 @@ use Rattle.methodology.specs.Account.{DayInput, Account, members, accounts, nob
 use Rattle.methodology.specs.Member.{loss}
 use Rattle.methodology.specs.Day.{total, maxEul, scale, share, value, reserve, estimate, five, dailies}
 use Rattle.methodology.specs.Contribution.{charge, funded, unfunded, three}
-use Rattle.methodology.specs.Refusals.{row_when_else_, row_at_when_else_, isOpen, badOpening, openingRefusal, badLengths, badDayNumber, firstBadHeading, lastMissing, badAmount, dayRefusal, closingRefusal}
+use Rattle.methodology.specs.Refusals.{row_when_else_, row_at_when_else_, rows-of_else_, isOpen, badOpening, openingRefusal, badInput, badOutput, badDayNumber, firstBadHeading, lastMissing, badAmount, accountRows, dayRows, dayRefusal, closingRefusal}
 use Rattle.methodology.specs.Register.{ifAccepted, accepted, answerBy}
 use Rattle.methodology.proofs.Passed.{passed, either}
 use Rattle.quotient.specs.Ranges.{greatestTotal}
 use Rattle.quotient.proofs.Bounds.{share-le, cents-le, raw-le}
 use Rattle.validation.proofs.Headings.{bad-heading-le}
 use Rattle.validation.proofs.OpeningPasses.{opening-leaves}
-use Rattle.validation.proofs.DayPasses.{lengths-leave, sized}
+use Rattle.validation.proofs.DayPasses.{sized, accounts-long}
 use Rattle.exposure.proofs.MaxTotal.{loss-le-total, max-le-total}
 use Rattle.period.specs.declared.Period.{Period}
 use Rattle.period.specs.declared.Outcome.{Outcome}
@@ -36,14 +36,14 @@ use Rattle.period.specs.declared.Outcome.the-variants as says
 use Rattle.period.specs.declared.Reply.{Reply}
 use Rattle.period.specs.Reading.{answerOf}
 use Rattle.period.specs.Calls.{freshPeriod, held, inRange, statusOf, openingRow, openedPeriod, accountsBrought, dayRow, shareAt, sizedPeriod, closingRow, sumsHeld, chargeBy, closedPeriod}
-use Rattle.period.specs.Rows.{Passes}
+use Rattle.fund.proofs.Dailies.{dailies-long}
 use Rattle.period.proofs.Ranges.{ranged}
-use Rattle.period.proofs.Sizing.{accounts-long, room-long, total-few}
+use Rattle.period.proofs.Sizing.{Admits, passes-all, total-few}
 use Rattle.period.proofs.Closings.{Closable, closable, in-range}
-use Rattle.period.proofs.Reach.{passes, sized-in-range}
+use Rattle.period.proofs.Reach.{sized-in-range}
 use Rattle.demand3.proofs.Covering.{three-wide}
 use Rattle.demand3.specs.Made.{Asked, Meets}
-use Rattle.demand3.specs.Demand3.{Fits64, numbersIn, Narrow, Fits, CanBeMade}
+use Rattle.demand3.specs.Demand3.{Fits64, numbersIn, NarrowAccrued, Narrow, Fits, CanBeMade}
 
 -- ---- rows
 
@@ -63,6 +63,12 @@ unfolding row_at_when_else_
 at-fits number index true rest h i f = (h, i)
 at-fits number index false rest h i f = f
 
+rows-fit : (x rest : Refusal) → RowFits x → RowFits rest → RowFits (rows-of x else rest)
+unfolding rows-of_else_
+rows-fit Clear rest h f = f
+rows-fit (Row number) rest h f = h
+rows-fit (RowAt number index) rest h f = h
+
 opening-row-fits : (p : Period) (o : Opening) → RowFits (openingRow p o)
 unfolding openingRow openingRefusal
 opening-row-fits p o = when-fits 2 (isOpen (statusOf p)) _ (omega arith) (λ e. when-fits 1 (badOpening o) Clear (omega arith) (λ e. tt))
@@ -71,22 +77,29 @@ closing-row-fits : (p : Period) (room : ℕ) → RowFits (closingRow p room)
 unfolding closingRow closingRefusal
 closing-row-fits p room =
     when-fits 2 (not (isOpen (statusOf p))) _ (omega arith)
-    (λ e. when-fits 8 (eqb (p .days) 0) _ (omega arith)
-    (λ e. when-fits 4 (not (eqb room (3 * p .n))) Clear (omega arith) (λ e. tt)))
+    (λ e. when-fits 8 (eqb (p .accrued .days) 0) _ (omega arith)
+    (λ e. when-fits 4 (not (eqb room (3 * p .held .n))) Clear (omega arith) (λ e. tt)))
+
+day-rows-fit : (o : Opening) (last : ℕ) (d : DayInput) → RowFits (dayRows o last d)
+unfolding dayRows accountRows
+day-rows-fit o last d =
+    let hs = d .headings in
+    let accts = accounts (o .k) d in
+    let bad5 = firstBadHeading (o .n) nobody hs in
+    let bad6 = firstWhere badAmount accts in
+    when-fits 4 (badInput o d) _ (omega arith)
+    (λ e. let few = sized o d e .few in
+    when-fits 3 (badDayNumber last (d .terms .number)) _ (omega arith)
+    (λ f. at-fits 5 bad5 (ltb bad5 (length hs) || lastMissing (o .n) hs) _ (omega arith) (omega (arith, bad-heading-le (o .n) nobody hs))
+    (at-fits 6 bad6 (ltb bad6 (length hs)) Clear (omega arith) (omega (arith, first-le badAmount accts, accounts-long (o .k) d)) tt)))
 
 day-row-fits : (p : Period) (d : DayInput) (room : ℕ) → RowFits (dayRow p d room)
 unfolding dayRow dayRefusal
 day-row-fits p d room =
-    let o = held p in
-    let hs = d .headings in
-    let accts = accounts (p .k) d in
     when-fits 2 (not (isOpen (statusOf p))) _ (omega arith)
-    (λ e. when-fits 4 (badLengths o d room) _ (omega arith)
-    (λ e. when-fits 3 (badDayNumber (p .last) (d .number)) _ (omega arith)
-    (λ f. let few = sized o d (lengths-leave o d room e .0) .few in
-    at-fits 5 (firstBadHeading (p .n) nobody hs) (ltb (firstBadHeading (p .n) nobody hs) (length hs) || lastMissing (p .n) hs) _ (omega arith) (omega (arith, bad-heading-le (p .n) nobody hs))
-    (at-fits 6 (firstWhere badAmount accts) (ltb (firstWhere badAmount accts) (length hs)) _ (omega arith) (omega (arith, first-le badAmount accts, accounts-long (p .k) d))
-    (when-fits 7 (eqb (total o accts) 0) Clear (omega arith) (λ e. tt))))))
+    (λ e. when-fits 4 (badOutput (held p) room) _ (omega arith)
+    (λ e. rows-fit (dayRows (held p) (p .accrued .last) d) _ (day-rows-fit (held p) (p .accrued .last) d)
+    (when-fits 7 (eqb (total (held p) (accountsBrought p d)) 0) Clear (omega arith) (λ e. tt))))
 
 -- ---- lists
 
@@ -110,17 +123,9 @@ module _ (o : Opening) (accts : List Account) (positive : 0 < total o accts) (fe
   unfolding dailies
   dailies-fit = every-flatMap Fits64 _ (members (o .n)) (λ m i. five-fits i)
 
-day-figures-fit : (p : Period) (d : DayInput) (room : ℕ) → Passes p d room × (0 < total (held p) (accountsBrought p d)) → Every Fits64 (total (held p) (accountsBrought p d) ∷ maxEul (held p) (accountsBrought p d) ∷ [])
+day-figures-fit : (p : Period) (d : DayInput) (room : ℕ) → Admits p d room × (0 < total (held p) (accountsBrought p d)) → Every Fits64 (total (held p) (accountsBrought p d) ∷ maxEul (held p) (accountsBrought p d) ∷ [])
 day-figures-fit p d room (s, t) =
     (omega (arith, total-few s), (omega (arith, total-few s, max-le-total (held p) (accountsBrought p d)), tt))
-
-five-wide : (e top t : ℕ) → length (five e top t) ≡ 5
-unfolding five
-five-wide e top t = refl
-
-dailies-long : (o : Opening) (accts : List Account) → length (dailies o accts) ≡ 5 * o .n
-unfolding dailies
-dailies-long o accts = rows-length 5 _ (λ m. five-wide _ _ _) (members (o .n)) ∙ ap (λ (x : ℕ). 5 * x) (range-length 1 (o .n))
 
 -- ---- a closing that is accepted
 
@@ -128,27 +133,27 @@ three-fits : (r : ℕ) → r ≤ 2 * greatestTotal → Every Fits64 (three r)
 unfolding three funded unfunded
 three-fits r h = (omega arith, (omega arith, (omega arith, tt)))
 
-module _ {p : Period} {room : ℕ} (c : Closable p room) (full : length (p .sums) ≡ 32) where
-  few : p .n ≤ 32
+module _ {p : Period} {room : ℕ} (c : Closable p room) (full : length (p .accrued .sums) ≡ 32) where
+  few : p .held .n ≤ 32
   few = opening-leaves (held p) (in-range c .opened) .members-few
 
-  sums-long : length (sumsHeld p) ≡ p .n
-  sums-long = length-take-le (p .n) (p .sums) (omega (arith, few))
+  sums-long : length (sumsHeld p) ≡ p .held .n
+  sums-long = length-take-le (p .held .n) (p .accrued .sums) (omega (arith, few))
 
-  sum-few : (s : ℕ) → s ∈ sumsHeld p → s ≤ p .days * scale
-  sum-few = by-index (λ (s : ℕ). s ≤ p .days * scale) (sumsHeld p) 0 (λ i h. rw (getD-take {A = ℕ} (p .n) (p .sums) i 0 (omega (arith, sums-long))) (in-range c .sums i))
+  sum-few : (s : ℕ) → s ∈ sumsHeld p → s ≤ p .accrued .days * scale
+  sum-few = by-index (λ (s : ℕ). s ≤ p .accrued .days * scale) (sumsHeld p) 0 (λ i h. rw (getD-take {A = ℕ} (p .held .n) (p .accrued .sums) i 0 (omega (arith, sums-long))) (in-range c .sums i))
 
   charge-few : {s : ℕ} → s ∈ sumsHeld p → chargeBy p s ≤ 2 * greatestTotal
   unfolding charge
   charge-few {s} i =
-      omega (arith, raw-le scale (p .highest) s (p .days) (omega arith) (c .some) (sum-few s i), in-range c .bounded)
+      omega (arith, raw-le scale (p .accrued .highest) s (p .accrued .days) (omega arith) (c .some) (sum-few s i), in-range c .bounded)
 
   funds-fit : Fits64 (Σ (sumsHeld p) (λ s. funded (chargeBy p s)))
   unfolding funded
   funds-fit =
       omega (arith, few, sums-long, Σ-bound (sumsHeld p) (λ s. funded (chargeBy p s)) (3 * greatestTotal) (λ s i. omega (arith, charge-few i)))
 
-  closing-figures-fit : Every Fits64 (p .days ∷ p .highest ∷ Σ (sumsHeld p) (λ s. funded (chargeBy p s)) ∷ [])
+  closing-figures-fit : Every Fits64 (p .accrued .days ∷ p .accrued .highest ∷ Σ (sumsHeld p) (λ s. funded (chargeBy p s)) ∷ [])
   closing-figures-fit =
       let r = in-range c in
       (omega (arith, r .counted, r .month), (omega (arith, r .bounded), (funds-fit, tt)))
@@ -165,64 +170,44 @@ module _ {p : Period} {room : ℕ} (c : Closable p room) (full : length (p .sums
 zeros-fit : Every Fits64 (replicate 32 0)
 zeros-fit = indexed Fits64 (replicate 32 0) (λ i. omega (arith, replicate-at {A = ℕ} 32 i 0))
 
+none-accrued : NarrowAccrued (freshPeriod .accrued)
+none-accrued = record { last = omega arith; days = omega arith; highest = omega arith; sums = zeros-fit; sums-long = refl }
+
 narrow-opened : (o : Opening) → badOpening o ≡ false → Narrow (openedPeriod o)
 narrow-opened o e =
     let l = opening-leaves o e in
     let group : (i : ℕ) → getD (o .groups) i 0 ≤ 32 = at-any (λ x. x ≤ 32) (o .groups) 0 (omega arith) (λ i h. l .group-few i (omega (arith, l .groups-long))) in
     record {
-      n = omega (arith, l .members-few);
-      k = omega (arith, l .scenarios-few);
-      groups = every-map Fits64 (λ i. getD (o .groups) i 0) (range 0 32) (λ i m. omega (arith, group i));
-      groups-long = table-length (λ i. getD (o .groups) i 0) 0 32;
-      last = omega arith;
-      days = omega arith;
-      highest = omega arith;
-      sums = zeros-fit;
-      sums-long = refl;
+      held =
+          record {
+            n = omega (arith, l .members-few);
+            k = omega (arith, l .scenarios-few);
+            groups = every-map Fits64 (λ i. getD (o .groups) i 0) (range 0 32) (λ i m. omega (arith, group i));
+            groups-long = table-length (λ i. getD (o .groups) i 0) 0 32;
+          };
+      accrued = none-accrued;
     }
 
 narrow-sized : (p : Period) (d : DayInput) → inRange (sizedPeriod p d) ≡ true → Narrow p → Narrow (sizedPeriod p d)
 narrow-sized p d e q =
     let r = ranged (sizedPeriod p d) e in
     record {
-      n = q .n;
-      k = q .k;
-      groups = q .groups;
-      groups-long = q .groups-long;
-      last = omega (arith, r .month);
-      days = omega (arith, r .counted, r .month);
-      highest = omega (arith, r .bounded);
-      sums = indexed Fits64 (sizedPeriod p d .sums) (λ i. omega (arith, r .sums i, r .counted, r .month));
-      sums-long = table-length (λ i. getD (p .sums) i 0 + shareAt p d i) 0 32;
+      held = q .held;
+      accrued =
+          record {
+            last = omega (arith, r .month);
+            days = omega (arith, r .counted, r .month);
+            highest = omega (arith, r .bounded);
+            sums = indexed Fits64 (sizedPeriod p d .accrued .sums) (λ i. omega (arith, r .sums i, r .counted, r .month));
+            sums-long = table-length (λ i. getD (p .accrued .sums) i 0 + shareAt p d i) 0 32;
+          };
     }
 
 narrow-closed : (p : Period) → Narrow p → Narrow (closedPeriod p)
-narrow-closed p q =
-    record {
-      n = q .n;
-      k = q .k;
-      groups = q .groups;
-      groups-long = q .groups-long;
-      last = q .last;
-      days = q .days;
-      highest = q .highest;
-      sums = q .sums;
-      sums-long = q .sums-long;
-    }
+narrow-closed p q = record { held = q .held; accrued = q .accrued }
 
 pub narrow-fresh : Narrow freshPeriod
-narrow-fresh =
-    record {
-      n = omega arith;
-      k = omega arith;
-      groups = zeros-fit;
-      groups-long = refl;
-      last = omega arith;
-      days = omega arith;
-      highest = omega arith;
-      sums = zeros-fit;
-      sums-long = refl;
-    }
+narrow-fresh = record { held = record { n = omega arith; k = omega arith; groups = zeros-fit; groups-long = refl }; accrued = none-accrued }
 
 -- ---- a call, by what the refusal table says
 
@@ -242,21 +227,21 @@ fits {p} q (Asked.opening o) r after (m, none) =
     }
 fits {p} q (Asked.day d out) r after m =
     let x = dayRow p d (length out) in
-    let pass : x ≡ Clear → Passes p d (length out) × (0 < total (held p) (accountsBrought p d)) = passes p d (length out) in
+    let pass : x ≡ Clear → Admits p d (length out) × (0 < total (held p) (accountsBrought p d)) = passes-all p d (length out) in
     record {
       answer = rw (m .answer) (answer-fits x _ (day-row-fits p d (length out)) (λ e. day-figures-fit p d (length out) (pass e)));
       period = subst Narrow (sym (m .period)) (either Narrow x _ p (λ e. narrow-sized p d (sized-in-range p d (pass e .0) (pass e .1)) q) q);
       buffer = λ b. subst (Every Fits64) (sym (m .buffer)) (either (Every Fits64) x _ out (λ e. dailies-fit (held p) (accountsBrought p d) (pass e .1) (total-few (pass e .0))) b);
-      long = ap length (m .buffer) ∙ either (λ (l : List ℕ). length l ≡ length out) x _ out (λ e. dailies-long (held p) (accountsBrought p d) ∙ sym (room-long (pass e .0))) refl;
+      long = ap length (m .buffer) ∙ either (λ (l : List ℕ). length l ≡ length out) x _ out (λ e. dailies-long (held p) (accountsBrought p d) ∙ sym (pass e .0 .room-long)) refl;
     }
 fits {p} q (Asked.closing out) r after m =
     let x = closingRow p (length out) in
     let pass : x ≡ Clear → Closable p (length out) = closable p (length out) in
     record {
-      answer = rw (m .answer) (answer-fits x _ (closing-row-fits p (length out)) (λ e. closing-figures-fit (pass e) (q .sums-long)));
+      answer = rw (m .answer) (answer-fits x _ (closing-row-fits p (length out)) (λ e. closing-figures-fit (pass e) (q .accrued .sums-long)));
       period = subst Narrow (sym (m .period)) (either Narrow x _ p (λ e. narrow-closed p q) q);
-      buffer = λ b. subst (Every Fits64) (sym (m .buffer)) (either (Every Fits64) x _ out (λ e. closing-fits (pass e) (q .sums-long)) b);
-      long = ap length (m .buffer) ∙ either (λ (l : List ℕ). length l ≡ length out) x _ out (λ e. closing-long (pass e) (q .sums-long)) refl;
+      buffer = λ b. subst (Every Fits64) (sym (m .buffer)) (either (Every Fits64) x _ out (λ e. closing-fits (pass e) (q .accrued .sums-long)) b);
+      long = ap length (m .buffer) ∙ either (λ (l : List ℕ). length l ≡ length out) x _ out (λ e. closing-long (pass e) (q .accrued .sums-long)) refl;
     }
 
 -- ---- calls with any arguments can be made
@@ -287,7 +272,7 @@ makes p (Asked.day d out) =
     (r, ifAccepted x (dailies (held p) accts) out, record { answer = answered x _ _ refl; period = refl; buffer = refl })
 makes p (Asked.closing out) =
     let x = closingRow p (length out) in
-    let closed = says.Closed (p .days) (p .highest) (Σ (sumsHeld p) (λ s. funded (chargeBy p s))) in
+    let closed = says.Closed (p .accrued .days) (p .accrued .highest) (Σ (sumsHeld p) (λ s. funded (chargeBy p s))) in
     let r : Reply = record { outcome = outcomeBy x closed; period = ifAccepted x (closedPeriod p) p } in
     (r, ifAccepted x (flatMap (λ s. three (chargeBy p s)) (sumsHeld p)) out, record { answer = answered x _ _ refl; period = refl; buffer = refl })
 

@@ -6,10 +6,12 @@ use lib.ListN.{length, getD}
 use Rattle.numbers.specs.Lists.{Every}
 use Rattle.numbers.specs.Sums.{Σ}
 use Rattle.numbers.specs.Fractions.{Fraction, _over_, whole, Proper, _⊕_, _⊗_, _≼_, _≺_}
+use Rattle.methodology.specs.declared.Opening.{Opening}
 use Rattle.methodology.specs.declared.Refusal.the-variants.{Clear}
 use Rattle.methodology.specs.Account.{members}
 use Rattle.methodology.specs.Contribution.{highest, exactCharge, allowance, shortfall}
 use Rattle.methodology.specs.Register.{Register, refusal, step, Answer, accepted, refused, refusedAt, answer, buffer}
+use Rattle.period.specs.declared.Accrued.{Accrued}
 use Rattle.period.specs.declared.Period.{Period}
 use Rattle.period.specs.Reading.{answerOf}
 use Rattle.period.specs.Registered.{periodOf}
@@ -90,17 +92,23 @@ numbersIn (accepted figures) = figures
 numbersIn (refused number) = number ∷ []
 numbersIn (refusedAt number index) = number ∷ index ∷ []
 
--- a period that the program can hold: numbers of 64 bits, arrays of 32 places
+-- What the program can hold: numbers of 64 bits, arrays of 32 places. An opening, what days come to, and a period.
+pub record NarrowOpening (o : Opening) : Type 0 where
+  pub n : Fits64 (o .n)
+  pub k : Fits64 (o .k)
+  pub groups : Every Fits64 (o .groups)
+  pub groups-long : length (o .groups) ≡ 32
+
+pub record NarrowAccrued (a : Accrued) : Type 0 where
+  pub last : Fits64 (a .last)
+  pub days : Fits64 (a .days)
+  pub highest : Fits64 (a .highest)
+  pub sums : Every Fits64 (a .sums)
+  pub sums-long : length (a .sums) ≡ 32
+
 pub record Narrow (p : Period) : Type 0 where
-  pub n : Fits64 (p .n)
-  pub k : Fits64 (p .k)
-  pub groups : Every Fits64 (p .groups)
-  pub groups-long : length (p .groups) ≡ 32
-  pub last : Fits64 (p .last)
-  pub days : Fits64 (p .days)
-  pub highest : Fits64 (p .highest)
-  pub sums : Every Fits64 (p .sums)
-  pub sums-long : length (p .sums) ≡ 32
+  pub held : NarrowOpening (p .held)
+  pub accrued : NarrowAccrued (p .accrued)
 
 -- A call that the program can make: every number that it answers, or leaves in the period or the buffer, fits 64 bits, where those do that
 -- the buffer had, and the buffer is as long as before.

@@ -3,7 +3,8 @@ use mathlib.Core.Path.{_≡_}
 use mathlib.Core.List.{List, [], _∷_}
 use Prim.Native.Nat.{ℕ}
 use lib.ListN.{length}
-use Rattle.methodology.specs.Account.{Opening, DayInput}
+use Rattle.methodology.specs.declared.Opening.{Opening}
+use Rattle.methodology.specs.Account.{DayInput}
 use Rattle.methodology.specs.Register.{Call}
 use Rattle.period.specs.declared.Period.{Period}
 use Rattle.period.specs.declared.Reply.{Reply}

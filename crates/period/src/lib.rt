@@ -32,7 +32,7 @@ pub struct Period {
 
 // What the days accepted since the last accepted opening come to: `last` is the last accepted day number, `days` is D, `highest` is M, and
 // member i + 1 has the sum of its shares in place i; past member n stands 0.
-struct Accrued {
+pub struct Accrued {
     last: u64,
     days: u64,
     highest: u64,
