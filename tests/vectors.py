@@ -1,35 +1,25 @@
 #!/usr/bin/env python3
-"""vectors.py DIR OUTDIR
+"""vectors.py PROGRAM
 
-Joins the months of DIR (NNN-name.month with NNN-name.report) in the order of their names into
-OUTDIR/stdin and their reports into OUTDIR/stdout. Before each month stands a line with the
-word month, its number and how many bytes it has, with tabs between; before each report such a
-line with the word report. The full-size month is left out.
+Runs PROGRAM on each text of tests/texts.py by itself, those of `vectors` and the worked ones, and compares its report byte for byte
+with the recalculation. Prints those that differ, by their line there, and how many texts there were. Exits with 1 where any differ.
 """
-import glob
 import os
 import sys
 
-
-def joined(word, paths):
-    out = b""
-    for number, path in enumerate(paths):
-        with open(path, "rb") as file:
-            held = file.read()
-        out += b"%s\t%d\t%d\n" % (word, number, len(held)) + held
-    return out
+import recalculation
+import texts
+from compare import ran
 
 
 def main():
-    directory, outdir = sys.argv[1:]
-    months = sorted(path for path in glob.glob(os.path.join(directory, "*.month"))
-                    if not os.path.basename(path).startswith("full-size"))
-    reports = [path[:-len("month")] + "report" for path in months]
-    os.makedirs(outdir, exist_ok=True)
-    for name, word, paths in (("stdin", b"month", months), ("stdout", b"report", reports)):
-        with open(os.path.join(outdir, name), "wb") as file:
-            file.write(joined(word, paths))
-    print(f"{len(months)} months")
+    program = os.path.abspath(sys.argv[1])
+    names = {text.encode("latin-1"): name for name, text in texts.VECTORS + texts.WORKED}
+    differ = [name for text, name in names.items() if ran(program, text) != (recalculation.report(text), None)]
+    for name in differ:
+        print("different:", name)
+    print(f"{len(names)} texts, {len(differ)} different")
+    sys.exit(1 if differ else 0)
 
 
 if __name__ == "__main__":
