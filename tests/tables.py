@@ -2,12 +2,11 @@
 """tables.py [--check]
 
 Writes the tables anew that hold texts with their reports: the input and output of `vectors` and the worked texts, from tests/texts.py;
-and the reports stored with the examples and with the programs that run one month. The recalculation gives every report, never the
+and the reports of the examples and of the programs that run one month. The recalculation gives every report, never the
 program. Of WorkedTexts.antt only what stands between its two marks is written. Prints what has changed. With --check it writes
 nothing, and exits with 1 where a file is not as it would be written.
 """
 import argparse
-import glob
 import os
 import sys
 
@@ -21,8 +20,12 @@ ROOM = 262_144              # as much as `vectors` reads, and as one report may 
 
 
 def held(path):
-    with open(os.path.join(TOP, path), "rb") as file:
-        return file.read()
+    """What stands in a file of the repository; None where it is not there."""
+    try:
+        with open(os.path.join(TOP, path), "rb") as file:
+            return file.read()
+    except FileNotFoundError:
+        return None
 
 
 # The input and output of `vectors`
@@ -65,15 +68,16 @@ def worked_texts():
     return {WORKED: (before + start + worked() + end + rest.split(end)[1]).encode("utf8")}
 
 
-# Reports stored with their months
+# Reports that are stored with their months
 
 def reports():
-    small = held("examples/small.month")
-    made = {"crates/several_days/stdin": small, "crates/several_days/stdout": recalculation.report(small),
-            "crates/sizing/stdout": recalculation.report(held("crates/sizing/stdin"))}
-    for path in glob.glob(os.path.join(TOP, "examples", "*.month")):
-        month = os.path.relpath(path, TOP)
-        made[month[:-len("month")] + "report"] = recalculation.report(held(month))
+    """Of the examples, the first of which is the texts' own, and of the programs that run one month."""
+    made = {"examples/printed.month": texts.example().encode("ascii"), "crates/several_days/stdin": held("examples/small.month")}
+    pairs = [(f"crates/{crate}/stdin", f"crates/{crate}/stdout") for crate in ("several_days", "sizing")]
+    pairs += [(f"examples/{name}", f"examples/{name[:-len('month')]}report")
+              for name in sorted(os.listdir(os.path.join(TOP, "examples"))) if name.endswith(".month")]
+    for month, report in pairs:
+        made[report] = recalculation.report(made.get(month) or held(month))
     return made
 
 
