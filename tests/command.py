@@ -20,8 +20,9 @@ echo ran >>"$RAN"
 echo "rt: numbers proved (unchanged since it was last proved)"
 echo "logic=proved"
 echo "rt: program proved (9 s)"
-[ -z "$FAILS" ] || { echo "main.rt:1:1: error" >&2; exit 1; }
+[ "$FAILS" != proof ] || { echo "main.rt:1:1: error" >&2; exit 1; }
 [ -x target/bin/sizing ] || { mkdir -p target/bin && cp "$BUILT" target/bin/sizing; }
+[ "$FAILS" != run ] || { echo "rt: sizing proved, and its run FAILED"; exit 1; }
 """
 verdicts = []
 
@@ -95,14 +96,17 @@ def main():
         for path, builds in (("crates/numbers/src/lib.rt", True), ("crates/sizing/src/lib.rt", True), ("crates/month/src", True),
                              ("crates.txt", True), ("crates/calls/src/lib.rt", False), ("sizing", False)):
             changed(path)
-            run(path + " changed", builds, says=("sizing: the code has changed",))
+            run(path + " changed", builds, says=("sizing: the program is older",))
             run(path + " changed, once more", False)
         changed("crates/numbers/src/lib.rt")
         for time_of in ("first", "second"):
-            run(f"a broken crate, the {time_of} time", True, fails="yes", says=(f"sizing: crate 2 of {count}: program\n", "logic", "error"))
+            run(f"a broken crate, the {time_of} time", True, fails="proof", says=(f"sizing: crate 2 of {count}: program\n", "logic", "error"))
         run("a crate that is whole again", True, command=os.path.join(place, "again"))
         shutil.rmtree(os.path.join(place, "top/target"))
-        run("no program, a broken crate", True, fails="yes", says=("sizing: the first run", "error"))
+        run("no program, a broken crate", True, fails="proof", says=("sizing: the first run", "error"))
+        run("no program, a run that fails", True, fails="run", says=("sizing: the first run", "FAILED"))
+        run("a run that fails, once more", True, fails="run", says=("sizing: the program is older", "FAILED"))
+        shutil.rmtree(os.path.join(place, "top/target"))
         run("no program", True, says=("sizing: the first run", f"sizing: crate 1 of {count}: numbers\n"))
         run("no program, once more", False)
 

@@ -339,7 +339,7 @@ WORKED_ONLY = [
     ("a kind of byte 255", client("\xff")),
 ]
 
-# Months made from a seed, with groups, clients of every kind and large amounts.
+# Months drawn at random, mostly with groups, clients and large amounts.
 VALID = [
     ("a group of all four members, clients of every kind", stored("valid-00")),
     ("three groups of one member each, clients of every kind", stored("valid-01")),
