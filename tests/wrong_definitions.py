@@ -76,6 +76,7 @@ FROM = {
     "ceilDiv": "Rattle.numbers.specs.Rounding", "Σ": "Rattle.numbers.specs.Sums",
     "greatest": "Rattle.numbers.specs.Sums", "_⁻": "Rattle.numbers.specs.Signed",
     "take": "lib.ListN", "drop": "lib.ListN", "false": "mathlib.Core.Bool", "true": "mathlib.Core.Bool",
+    "withGroups": "Rattle.methodology.specs.Account",
 }
 
 # ---- wrong definitions that no change of one word makes: file, right, wrong
@@ -136,10 +137,10 @@ Refusals.badAmount | any npvOutside (a .npvs) | any npvOutside (take 3 (a .npvs)
 Refusals.badAmount | any npvOutside (a .npvs) | any npvOutside (take 16 (a .npvs))
 Refusals.firstNotZero | not (eqb (prev .member) (h .member)) && | ltb 0 (prev .member) && not (eqb (prev .member) (h .member)) &&
 Refusals.memberSkipped | ltb (prev .member + 1) (h .member) | eqb (prev .member + 2) (h .member)
-Refusals.dayRefusal | row 3 when badDayNumber last (d .number) else⏎row 5 at bad5 when ltb bad5 count || lastMissing (o .n) (d .headings) else | row 3 when outside 1 31 (d .number) else⏎row 5 at bad5 when ltb bad5 count || lastMissing (o .n) (d .headings) else⏎row 3 when leb (d .number) last else
-Refusals.dayRefusal | row 4 when badLengths o d room else⏎row 3 when badDayNumber last (d .number) else | row 4 when badInput o d else⏎row 3 when badDayNumber last (d .number) else⏎row 4 when badOutput o room else
+Refusals.dayRows | row 3 when badDayNumber last (d .terms .number) else⏎accountRows o d | row 3 when outside 1 31 (d .terms .number) else⏎rows-of accountRows o d else⏎row 3 when leb (d .terms .number) last else⏎Clear
+Refusals.dayRows | row 3 when badDayNumber last (d .terms .number) else⏎accountRows o d | rows-of accountRows o d else⏎row 3 when badDayNumber last (d .terms .number) else⏎Clear
 Register.accept | status = Open; held = o; days = [] | status = Open; held = o; days = cond (eqb (o .n) (g .held .n)) (g .days) []
-Register.accept | held = o; days = [] | held = record { n = o .n; k = o .k; groups = cond (eqb (o .n) (g .held .n)) (g .held .groups) (o .groups) }; days = []
+Register.accept | held = o; days = [] | held = withGroups o (cond (eqb (o .n) (g .held .n)) (g .held .groups) (o .groups)); days = []
 Register.step | ifAccepted (refusal g c) (accept g c) g | ifAccepted (refusal g c) (accept g c) (record { status = g .status; held = g .held; days = take 1 (g .days) })
 Rounding.roundDiv | (2 * p + q) / (2 * q) | cond (eqb ((2 * p + q) % (2 * q)) 0) ((2 * p + q) / (2 * q) / 2 * 2) ((2 * p + q) / (2 * q))
 Rounding.roundDiv | (2 * p + q) / (2 * q) | (2 * p + (q - 1)) / (2 * q)
@@ -169,7 +170,7 @@ UNCHANGED = ": unchanged"
 # ---- reading a file of definitions
 
 TOKEN = re.compile(r'"(?:\\.|[^"])*"|[(){};,]|[^\s(){};,"]+')
-WORDS = {"let", "in", "=", ";", "row", "when", "else", ",", "{", "}", "record", ":", "→"}
+WORDS = {"let", "in", "=", ";", "row", "rows-of", "when", "else", ",", "{", "}", "record", ":", "→"}
 INFIX = {"||", "&&", "+", "-", "*", "/", "%", "∷", "++", "+ℤ", "-ℤ", "over", "⊕", "⊗", "×", "≤", "<"}
 
 Token = namedtuple("Token", "text start end")
@@ -287,7 +288,7 @@ def order_changes(text, tokens):
 
 def row_changes(text):
     """A row of the refusal table dropped, or exchanged with the next."""
-    lines = list(re.finditer(r"    row .*? else\n", text))
+    lines = list(re.finditer(r"    (?:row|rows-of) .*? else\n", text))
     for i, row in enumerate(lines):
         yield row.start(), row.end(), "", "row " + row.group().split()[1] + " dropped"
         if i + 1 < len(lines) and lines[i + 1].start() == row.end():

@@ -7,6 +7,7 @@
 // a closing then print the buffer that they were lent, which was filled with 7. The stored output was worked out from document 01, by a
 // recalculation and for calls 31 to 33 by hand, not taken from the program.
 use libc::STDOUT_FILENO;
+use methodology::DayTerms;
 use period::Outcome;
 use period::Period;
 use period::Reply;
@@ -78,7 +79,7 @@ fn day(
     out: &mut [u64],
 ) -> Period {
     let headings = headings::pack(members, numbers, kinds);
-    let reply = period.day_of(number, headings, members.len(), npvs, margins, extras, out);
+    let reply = period.day_of(DayTerms { number }, headings, members.len(), npvs, margins, extras, out);
     let next = step(call, reply);
     put_rows(out, 5);
     next

@@ -1,6 +1,7 @@
 // Document 01's figures 1 to 10, run through the calls of a period. What it prints is held to the stored output: for each figure
 // its number, T and Max EUL, then each member's five numbers; for 9 and 10 then the closing's D, M and total funded, and each
 // member's raw, funded and unfunded contribution.
+use methodology::DayTerms;
 use period::Outcome;
 use period::Period;
 use printing::put_rows;
@@ -26,7 +27,7 @@ fn size(
     out: &mut [u64],
 ) -> Period {
     let headings = headings::pack(members, numbers, kinds);
-    let reply = period.day_of(number, headings, members.len(), npvs, margins, extras, out);
+    let reply = period.day_of(DayTerms { number }, headings, members.len(), npvs, margins, extras, out);
     let outcome = reply.outcome;
     if let Outcome::Sized(total, top) = outcome {
         put_rows(&[figure, total, top], 3);

@@ -28,38 +28,37 @@ input c b e = rw (count (at-start c)) (sym (c .bad-input .ensures) ∙ e)
 bad-input-requires : tie.Need-bad-input-requires
 bad-input-requires c κs = search needs
 
-returns : tie.Need-returns
-unfolding dayRows row_when_else_
-returns c = rw (input (c .before) _ (c .if1 .taken))
-
 bad-day-number-requires : tie.Need-bad-day-number-requires
 bad-day-number-requires c κs = search needs
 
+returns : tie.Need-returns
+unfolding dayRows row_when_else_
+returns c = rw (input (c .before .before) _ (c .if1 .taken))
+
 returns-2 : tie.Need-returns-2
 unfolding dayRows row_when_else_
-returns-2 c = rw (input (c .before .before .before) _ (c .before .before .if1 .left), sym (c .before .bad-day-number .ensures) ∙ c .if2 .taken)
+returns-2 c = rw (input (c .before .before .before) _ (c .before .if1 .left), sym (c .before .before .bad-day-number .ensures) ∙ c .if2 .taken)
 
 account-rows-requires : tie.Need-account-rows-requires
 account-rows-requires c κs =
     let i = c .before .before .before in
     let s = at-start i in
-    let z : Sized (listed (s .args .opening)) (day s) = sized _ _ (input i _ (c .before .before .if1 .left)) in
+    let z : Sized (listed (s .args .opening)) (day s) = sized _ _ (input i _ (c .before .if1 .left)) in
     (s .pre, (rw (count s) at (z .npvs-long), z .margins-long ∙ count s, z .extras-long ∙ count s))
 
 returns-3 : tie.Need-returns-3
 unfolding dayRows row_when_else_
 returns-3 c =
     let e = c .before in
-    let i = e .before .before .before in
-    rw (input i _ (e .before .before .if1 .left), sym (e .before .bad-day-number .ensures) ∙ e .if2 .left) (c .account-rows .ensures _)
+    rw (input (e .before .before .before) _ (e .before .if1 .left), sym (e .before .before .bad-day-number .ensures) ∙ e .if2 .left) (c .account-rows .ensures _)
 
 pub day-rows-spec : {M : Type 1} → statement M
 day-rows-spec =
     tie.close
     (tie.spec
     bad-input-requires
-    returns
     bad-day-number-requires
+    returns
     returns-2
     account-rows-requires
     returns-3)
