@@ -87,18 +87,18 @@ module _ (n k : ℕ) (g : Register) (period : Period) (h : Held g period n k) (d
     written-is = follows .2 ∙ rw c
 
     lines-are : (total max : ℕ) → returned (step g call) call ≡ total ∷ max ∷ []
-        → dayLines (step g call) d (5 * g .held .n) ≡ printed (bytes "day") (d .number ∷ total ∷ max ∷ []) ++ rows (bytes "daily") 5 n figures
+        → dayLines (step g call) d (5 * g .held .n) ≡ printed (bytes "day") (d .terms .number ∷ total ∷ max ∷ []) ++ rows (bytes "daily") 5 n figures
     unfolding dayLines
     lines-are total max e =
-        rw (e, ← written-is) (ap (λ (x : ℕ). printed (bytes "day") (d .number ∷ total ∷ max ∷ []) ++ rows (bytes "daily") 5 x figures) (still-held .members))
+        rw (e, ← written-is) (ap (λ (x : ℕ). printed (bytes "day") (d .terms .number ∷ total ∷ max ∷ []) ++ rows (bytes "daily") 5 x figures) (still-held .members))
 
   pub day-said : (rest : Expected → List ℕ) → followedBy (Text·sized (refusal g call) g d line) rest
-      ≡ said (r .outcome) (d .number) line n figures ++ cond (isOver (r .outcome)) [] (rest (day (step g call)))
+      ≡ said (r .outcome) (d .terms .number) line n figures ++ cond (isOver (r .outcome)) [] (rest (day (step g call)))
   unfolding Text·sized followedBy said isOver
   day-said rest = by (r .outcome) refl (day-outcome m)
     where
       by : (o : Outcome) → r .outcome ≡ o → OfDay (length (d .headings)) o
-          → followedBy (Text·sized (refusal g call) g d line) rest ≡ said o (d .number) line n figures ++ cond (isOver o) [] (rest (day (step g call)))
+          → followedBy (Text·sized (refusal g call) g d line) rest ≡ said o (d .terms .number) line n figures ++ cond (isOver o) [] (rest (day (step g call)))
       by o e (sized total max) =
           let (c, f) = is-clear (refusal g call) _ _ (told e) in
           rw c (ap (λ (l : List ℕ). l ++ rest (day (step g call))) (lines-are c total max f))

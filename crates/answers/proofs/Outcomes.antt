@@ -6,17 +6,19 @@ use Prim.Native.Nat.{ℕ, _+_, _*_, _≤_}
 use native.Mathlib.Omega.{arith}
 use lib.Dec.{eqb, ltb}
 use lib.ListN.{length}
-use borrow.Author.Tests.{ltb-true}
 use Rattle.numbers.specs.Lists.{firstWhere}
+use Rattle.numbers.proofs.Lists.{first-le}
 use Rattle.methodology.specs.declared.Refusal.{Refusal}
 use Rattle.methodology.specs.declared.Refusal.the-variants.{Clear, Row, RowAt}
 use Rattle.methodology.specs.declared.Status.{Status}
 use Rattle.methodology.specs.declared.Opening.{Opening}
 use Rattle.methodology.specs.Account.{DayInput, accounts, nobody}
 use Rattle.methodology.specs.Day.{total}
-use Rattle.methodology.specs.Refusals.{row_when_else_, row_at_when_else_, isOpen, badOpening, badLengths, badDayNumber, firstBadHeading, lastMissing, badAmount, openingRefusal, dayRefusal, closingRefusal}
+use Rattle.methodology.specs.Refusals.{row_when_else_, row_at_when_else_, rows-of_else_, isOpen, badOpening, badInput, badOutput, badDayNumber, firstBadHeading, lastMissing, badAmount, openingRefusal, accountRows, dayRows, dayRefusal, closingRefusal}
 use Rattle.methodology.specs.Register.{accepted, answerBy}
+use Rattle.methodology.proofs.Passed.{by-test}
 use Rattle.validation.proofs.Headings.{bad-heading-le}
+use Rattle.validation.proofs.DayPasses.{accounts-long}
 use Rattle.period.specs.declared.Outcome.{Outcome}
 use Rattle.period.specs.declared.Outcome.the-variants.{Opened, Sized, Closed, Refused, RefusedAt}
 use Rattle.period.specs.declared.Period.{Period}
@@ -68,28 +70,37 @@ pub data OfDay (count : ℕ) : Outcome → Type 0 where
   unsized : (number : ℕ) → OfDay count (Refused number)
   unsized-at : (number index : ℕ) → index ≤ count → OfDay count (RefusedAt number index)
 
-index-le : (s : Status) (o : Opening) (last : ℕ) (d : DayInput) (room number index : ℕ) → dayRefusal s o last d room ≡ RowAt number index → index ≤ length (d .headings)
-unfolding dayRefusal row_when_else_ row_at_when_else_
-index-le s o last d room number index e = by (not (isOpen s)) (badLengths o d room) (badDayNumber last (d .number)) (ltb bad5 count || lastMissing (o .n) (d .headings)) (ltb bad6 count) refl (eqb (total o (accounts (o .k) d)) 0) e
-  where
-    count : ℕ
-    count = length (d .headings)
+-- the index that a row gives, if it gives one, is at most `most`
+abbrev IndexLe : (most : ℕ) → Refusal → Type 0
+IndexLe most Clear = Unit {0}
+IndexLe most (Row number) = Unit {0}
+IndexLe most (RowAt number index) = index ≤ most
 
-    bad5 : ℕ
-    bad5 = firstBadHeading (o .n) nobody (d .headings)
+rows-le : (most : ℕ) (x rest : Refusal) → IndexLe most x → IndexLe most rest → IndexLe most (rows-of x else rest)
+unfolding rows-of_else_
+rows-le most Clear rest h k = k
+rows-le most (Row number) rest h k = tt
+rows-le most (RowAt number index) rest h k = h
 
-    bad6 : ℕ
-    bad6 = firstWhere badAmount (accounts (o .k) d)
+account-rows-le : (o : Opening) (d : DayInput) → IndexLe (length (d .headings)) (accountRows o d)
+unfolding accountRows row_at_when_else_
+account-rows-le o d =
+    let count = length (d .headings) in
+    let bad5 = firstBadHeading (o .n) nobody (d .headings) in
+    let bad6 = firstWhere badAmount (accounts (o .k) d) in
+    by-test (IndexLe count) (ltb bad5 count || lastMissing (o .n) (d .headings)) (RowAt 5 bad5) _ (λ e. bad-heading-le (o .n) nobody (d .headings))
+    (λ e. by-test (IndexLe count) (ltb bad6 count) (RowAt 6 bad6) Clear (λ e. omega (arith, first-le badAmount (accounts (o .k) d), accounts-long (o .k) d)) (λ e. tt))
 
-    by : (b2 b4 b3 b5 b6 : Bool) → ltb bad6 count ≡ b6 → (b7 : Bool)
-        → cond b2 (Row 2) (cond b4 (Row 4) (cond b3 (Row 3) (cond b5 (RowAt 5 bad5) (cond b6 (RowAt 6 bad6) (cond b7 (Row 7) Clear))))) ≡ RowAt number index → index ≤ count
-    by true b4 b3 b5 b6 q b7 e = absurd (let z : _≡_ {A = ℕ} 0 1 = cc in omega arith)
-    by false true b3 b5 b6 q b7 e = absurd (let z : _≡_ {A = ℕ} 0 1 = cc in omega arith)
-    by false false true b5 b6 q b7 e = absurd (let z : _≡_ {A = ℕ} 0 1 = cc in omega arith)
-    by false false false true b6 q b7 e = let z : bad5 ≡ index = cc in let k : bad5 ≤ count = bad-heading-le (o .n) nobody (d .headings) in omega arith
-    by false false false false true q b7 e = let z : bad6 ≡ index = cc in let k = ltb-true bad6 count q in omega arith
-    by false false false false false q true e = absurd (let z : _≡_ {A = ℕ} 0 1 = cc in omega arith)
-    by false false false false false q false e = absurd (let z : _≡_ {A = ℕ} 0 1 = cc in omega arith)
+index-le : (s : Status) (o : Opening) (last : ℕ) (d : DayInput) (room : ℕ) → IndexLe (length (d .headings)) (dayRefusal s o last d room)
+unfolding dayRefusal dayRows row_when_else_
+index-le s o last d room =
+    let few = IndexLe (length (d .headings)) in
+    by-test few (not (isOpen s)) (Row 2) _ (λ e. tt)
+    (λ e. by-test few (badOutput o room) (Row 4) _ (λ e. tt)
+    (λ e. rows-le (length (d .headings)) (dayRows o last d) _
+    (by-test few (badInput o d) (Row 4) _ (λ e. tt)
+    (λ e. by-test few (badDayNumber last (d .terms .number)) (Row 3) _ (λ e. tt) (λ e. account-rows-le o d)))
+    (by-test few (eqb (total o (accounts (o .k) d)) 0) (Row 7) Clear (λ e. tt) (λ e. tt))))
 
 pub day-outcome : {p : Period} {d : DayInput} {before after : List ℕ} {r : Reply} → DayMeets p d before r after → OfDay (length (d .headings)) (r .outcome)
 unfolding dayRow
@@ -98,7 +109,9 @@ day-outcome {p} {d} {before} {r = r} m = by (r .outcome) _ _ (m .answer)
     by : (x : Outcome) (a b : ℕ) → answerOf x ≡ answerBy (dayRow p d (length before)) (a ∷ b ∷ []) → OfDay (length (d .headings)) x
     by (Sized total max) a b e = sized total max
     by (Refused number) a b e = unsized number
-    by (RefusedAt number index) a b e = unsized-at number index (index-le (statusOf p) (held p) (p .last) d (length before) number index (is-row-at _ _ _ _ (sym e)))
+    by (RefusedAt number index) a b e =
+        let met : dayRow p d (length before) ≡ RowAt number index = is-row-at _ _ _ _ (sym e) in
+        unsized-at number index (rw met at (index-le (statusOf p) (held p) (p .accrued .last) d (length before)))
     by Opened a b e = absurd (let z : 2 ≡ 0 = same-count (dayRow p d (length before)) (a ∷ b ∷ []) [] e in omega arith)
     by (Closed days highest funds) a b e = absurd (let z : 2 ≡ 3 = same-count (dayRow p d (length before)) (a ∷ b ∷ []) (days ∷ highest ∷ funds ∷ []) e in omega arith)
 
@@ -139,7 +152,7 @@ closing-outcome {p} {before} {r = r} m = by (r .outcome) _ _ _ (m .answer)
     by (Refused number) a b c e = unclosed number
     by Opened a b c e = absurd (let z : 3 ≡ 0 = same-count (closingRow p (length before)) (a ∷ b ∷ c ∷ []) [] e in omega arith)
     by (Sized total max) a b c e = absurd (let z : 3 ≡ 2 = same-count (closingRow p (length before)) (a ∷ b ∷ c ∷ []) (total ∷ max ∷ []) e in omega arith)
-    by (RefusedAt number index) a b c e = absurd (closing-no-index (statusOf p) (held p) (p .days) (length before) number index (is-row-at _ _ _ _ (sym e)))
+    by (RefusedAt number index) a b c e = absurd (closing-no-index (statusOf p) (held p) (p .accrued .days) (length before) number index (is-row-at _ _ _ _ (sym e)))
 
 pub closing-line : {o : Outcome} (line : ℕ) → OfClosing o → lineSaid o line ≡ line
 unfolding lineSaid

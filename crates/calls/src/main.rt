@@ -79,7 +79,15 @@ fn day(
     out: &mut [u64],
 ) -> Period {
     let headings = headings::pack(members, numbers, kinds);
-    let reply = period.day_of(DayTerms { number }, headings, members.len(), npvs, margins, extras, out);
+    let reply = period.day_of(
+        DayTerms { number },
+        headings,
+        members.len(),
+        npvs,
+        margins,
+        extras,
+        out,
+    );
     let next = step(call, reply);
     put_rows(out, 5);
     next

@@ -27,7 +27,15 @@ fn size(
     out: &mut [u64],
 ) -> Period {
     let headings = headings::pack(members, numbers, kinds);
-    let reply = period.day_of(DayTerms { number }, headings, members.len(), npvs, margins, extras, out);
+    let reply = period.day_of(
+        DayTerms { number },
+        headings,
+        members.len(),
+        npvs,
+        margins,
+        extras,
+        out,
+    );
     let outcome = reply.outcome;
     if let Outcome::Sized(total, top) = outcome {
         put_rows(&[figure, total, top], 3);

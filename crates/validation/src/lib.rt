@@ -36,7 +36,13 @@ pub fn day_rows(
     requires { ⌜ Even (now members) (now numbers) (now kinds) × (opening .k ≤ 16) ⌝ }
     ensures { λ r. ⌜ r ≡ dayRows (listed opening) last (plainDay terms (now (members .entry)) (now (numbers .entry)) (now (kinds .entry)) (now (npvs .entry)) (now (margins .entry)) (now (extras .entry))) ⌝ }
 {
-    let bad4 = bad_input(opening.k, members.len(), npvs.len(), margins.len(), extras.len());
+    let bad4 = bad_input(
+        opening.k,
+        members.len(),
+        npvs.len(),
+        margins.len(),
+        extras.len(),
+    );
     let bad3 = bad_day_number(last, terms.number);
     if bad4 {
         return Refusal::Row(4); // before row 3
