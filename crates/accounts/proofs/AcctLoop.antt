@@ -17,7 +17,7 @@ use Rattle.methodology.specs.Text.{LF, split, AccountLine, accountOf, account, 
 use Rattle.methodology.specs.Lines.{indexOf, lineRead}
 use Rattle.lines.specs.Forms.{isNegative, signsWrong, accountIn, accountFrom, AccountIs}
 use Rattle.lines.proofs.Rows.{some-none}
-use Rattle.accounts.specs.declared.Lines.the-variants.{Read, Stopped}
+use Rattle.lines.specs.declared.Lines.the-variants.{Read, Stopped}
 use Rattle.accounts.specs.AcctLines.{dayRead, accountsDue, dayDue, AccountsMeet}
 use Rattle.accounts.proofs.Line.{line-bad, line-over, line-more, line-last}
 use Rattle.accounts.proofs.Stores.{Stored, day-more}

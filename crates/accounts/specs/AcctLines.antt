@@ -9,8 +9,8 @@ use Rattle.numbers.specs.Lists.{range}
 use Rattle.methodology.specs.Account.{DayInput, headingAt}
 use Rattle.methodology.specs.Register.{Call, Register, refusal}
 use Rattle.methodology.specs.Text.{LF, split, refusedLine, account, sized, followedBy, reportFrom}
-use Rattle.accounts.specs.declared.Lines.{Lines}
-use Rattle.accounts.specs.declared.Lines.the-variants.{Read, Stopped}
+use Rattle.lines.specs.declared.Lines.{Lines}
+use Rattle.lines.specs.declared.Lines.the-variants.{Read, Stopped}
 
 -- a day of the first `count` accounts in the slices, with k + 1 NPVs each
 abbrev pub dayRead : (number count k : ℕ) → (members numbers kinds : List ℕ) → (npvs : List ℤ) → (margins extras : List ℕ) → DayInput

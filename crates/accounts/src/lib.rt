@@ -1,4 +1,5 @@
 // A day's acct lines, read one after another into the slices of a day call.
+use lines::Lines;
 use lines::account_at;
 ghost use mathlib.Core.Bool.{false};
 ghost use mathlib.Core.List.{_∷_};
@@ -9,12 +10,6 @@ ghost use lib.ListN.{length, getD, set, drop};
 ghost use Rattle.numbers.specs.Signed.{_⁺};
 ghost use Rattle.lines.specs.Forms.{isNegative, signsWrong};
 ghost use Rattle.accounts.specs.AcctLines.{AccountsMeet};
-
-// What reading lines comes to: the index after them, or the first bad one, counted from 0.
-pub enum Lines {
-    Read(usize),
-    Stopped(usize),
-}
 
 // "A day's acct lines hold at most 65,536 bytes with their LFs".
 const MOST_BYTES: usize = 65_536;

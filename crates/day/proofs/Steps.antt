@@ -21,8 +21,8 @@ use Rattle.answers.specs.Held.{Held}
 use Rattle.answers.specs.Said.{said, isOver}
 use Rattle.answers.proofs.Outcomes.{OfDay, day-outcome}
 use Rattle.answers.proofs.Calls.{day-said, day-held}
-use Rattle.accounts.specs.declared.Lines.{Lines}
-use Rattle.accounts.specs.declared.Lines.the-variants.{Read, Stopped}
+use Rattle.lines.specs.declared.Lines.{Lines}
+use Rattle.lines.specs.declared.Lines.the-variants.{Read, Stopped}
 use Rattle.accounts.specs.AcctLines.{dayRead, accountsDue, dayDue, AccountsMeet}
 use Rattle.day.specs.declared.Turn.{Turn}
 use Rattle.day.specs.Turns.{daysDue, TurnMeets, ended, goes-on, Stands}

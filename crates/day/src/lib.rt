@@ -1,8 +1,8 @@
 // A day of the month's text: its acct lines are read, the day call is made, and what it says is printed.
-use accounts::Lines;
 use accounts::read_accounts;
 use answers::is_over;
 use answers::say;
+use lines::Lines;
 use period::Period;
 use period::Reply;
 use report::put_refused;

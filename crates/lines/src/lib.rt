@@ -14,6 +14,12 @@ ghost use Rattle.methodology.specs.Lines.{indexOf, lineRead};
 ghost use Rattle.fields.specs.Fields.{RowIs};
 ghost use Rattle.lines.specs.Forms.{notLetters, lineRow, isNegative, AccountIs};
 
+// What reading several lines comes to: the index after them, or the first bad one, counted from 0.
+pub enum Lines {
+    Read(usize),
+    Stopped(usize),
+}
+
 // Reads the line at index p, its word and then as many values as the row has places, of which the one in `place` is a kind. It answers
 // the index after the LF, or 0 where the line is not so.
 fn line_at(text: &[u8], p: usize, word: &[u8], place: usize, row: &mut [i64]) -> usize

@@ -28,8 +28,8 @@ use Rattle.answers.specs.Held.{Held}
 use Rattle.answers.specs.Said.{said, isOver}
 use Rattle.answers.proofs.Calls.{opening-said, opening-held}
 use Rattle.day.specs.Turns.{daysDue}
-use Rattle.accounts.specs.declared.Lines.{Lines}
-use Rattle.accounts.specs.declared.Lines.the-variants.{Read, Stopped}
+use Rattle.lines.specs.declared.Lines.{Lines}
+use Rattle.lines.specs.declared.Lines.the-variants.{Read, Stopped}
 use Rattle.month.specs.MemberLines.{membersDue, openingDue, MembersMeet}
 
 -- ---- one line

@@ -7,8 +7,8 @@ use Rattle.methodology.specs.declared.Opening.{Opening}
 use Rattle.methodology.specs.Register.{Call, start, refusal}
 use Rattle.methodology.specs.Text.{LF, split, refusedLine, member, opened, followedBy, reportFrom}
 use Rattle.period.specs.Reading.{brought}
-use Rattle.accounts.specs.declared.Lines.{Lines}
-use Rattle.accounts.specs.declared.Lines.the-variants.{Read, Stopped}
+use Rattle.lines.specs.declared.Lines.{Lines}
+use Rattle.lines.specs.declared.Lines.the-variants.{Read, Stopped}
 
 -- the report from index p on, where the first of n member lines is due
 abbrev pub membersDue : (text : List ℕ) → (p n k : ℕ) → List ℕ

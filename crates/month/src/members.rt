@@ -1,8 +1,8 @@
 // The member lines, and the opening call that they ask for.
 use crate::days::days;
-use accounts::Lines;
 use answers::is_over;
 use answers::say;
+use lines::Lines;
 use lines::numbers_at;
 use period::Period;
 use report::put_refused;
