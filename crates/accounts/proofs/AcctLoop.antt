@@ -1,4 +1,4 @@
--- The loop over a day's acct lines. Where the reader stands at index q with j accounts in the slices, the report from the first line on is
+-- The loop over a day's acct lines. Where the reader stands at index q with j accounts in the columns, the report from the first line on is
 -- the report from q on of the day that they make; each law is the loop's start, its step or one of its exits.
 use mathlib.Core.Path.{_≡_, refl, sym, ap, _∙_}
 use mathlib.Core.Bool.{Bool, true, false, cond}
@@ -18,7 +18,7 @@ use Rattle.methodology.specs.Lines.{indexOf, lineRead}
 use Rattle.lines.specs.Forms.{isNegative, signsWrong, accountIn, accountFrom, AccountIs}
 use Rattle.lines.proofs.Rows.{some-none}
 use Rattle.lines.specs.declared.Lines.the-variants.{Read, Stopped}
-use Rattle.accounts.specs.AcctLines.{dayRead, accountsDue, dayDue, AccountsMeet}
+use Rattle.accounts.specs.AcctLines.{columnAt, dayRead, accountsDue, dayDue, AccountsMeet}
 use Rattle.accounts.proofs.Line.{line-bad, line-over, line-more, line-last}
 use Rattle.accounts.proofs.Stores.{Stored, day-more}
 
@@ -44,19 +44,19 @@ account-read (some a) next row r h n =
 
 -- ---- the loop
 
-pub record ReadSoFar (text : List ℕ) (p count k j q : ℕ) (members numbers kinds : List ℕ) (npvs : List ℤ) (margins extras : List ℕ) : Type 0 where
+pub record ReadSoFar (text : List ℕ) (p count k j q : ℕ) (columns : List ℕ) (npvs : List ℤ) : Type 0 where
   pub far : p + j ≤ q
   pub near : q ≤ length text
   pub few : j ≤ count
   pub due : (g : Register) (number at : ℕ) → g .held .k ≡ k → j < count
-      → accountsDue text p g number at count ≡ reportFrom (at + 1 + j) (split LF (drop q text)) (account g (dayRead number j k members numbers kinds npvs margins extras) at count (q - p))
+      → accountsDue text p g number at count ≡ reportFrom (at + 1 + j) (split LF (drop q text)) (account g (dayRead number j k columns npvs) at count (q - p))
   pub done : (g : Register) (number at : ℕ) → g .held .k ≡ k → j ≡ count
-      → accountsDue text p g number at count ≡ dayDue text q g (dayRead number j k members numbers kinds npvs margins extras) at count
+      → accountsDue text p g number at count ≡ dayDue text q g (dayRead number j k columns npvs) at count
 
-pub reading-none : (text : List ℕ) (p count k : ℕ) (members numbers kinds : List ℕ) (npvs : List ℤ) (margins extras : List ℕ) → p ≤ length text → 1 ≤ count
-    → ReadSoFar text p count k 0 p members numbers kinds npvs margins extras
+pub reading-none : (text : List ℕ) (p count k : ℕ) (columns : List ℕ) (npvs : List ℤ) → p ≤ length text → 1 ≤ count
+    → ReadSoFar text p count k 0 p columns npvs
 unfolding range
-reading-none text p count k members numbers kinds npvs margins extras h l =
+reading-none text p count k columns npvs h l =
     record {
       far = omega arith;
       near = h;
@@ -65,18 +65,18 @@ reading-none text p count k members numbers kinds npvs margins extras h l =
       done = λ g number at e m. let no-way : ⊥ = omega arith in absurd no-way;
     }
 
-module _ {text : List ℕ} {p count k j q : ℕ} {members numbers kinds : List ℕ} {npvs : List ℤ} {margins extras : List ℕ} (b : ReadSoFar text p count k j q members numbers kinds npvs margins extras) where
+module _ {text : List ℕ} {p count k j q : ℕ} {columns : List ℕ} {npvs : List ℤ} (b : ReadSoFar text p count k j q columns npvs) where
   -- the line's reading, by the register's k
   read-by : (g : Register) → g .held .k ≡ k → lineRead (accountOf (g .held .k)) (drop q text) ≡ lineRead (accountOf k) (drop q text)
   read-by g e = ap (λ (n : ℕ). lineRead (accountOf n) (drop q text)) e
 
-  pub reading-all : count ≤ j → AccountsMeet text p count k members numbers kinds npvs margins extras (Read q)
+  pub reading-all : count ≤ j → AccountsMeet text p count k columns npvs (Read q)
   unfolding AccountsMeet
   reading-all h = let all : j ≡ count = omega (arith, b .few) in (omega (arith, b .far), b .near, λ g number at e. rw all at (b .done g number at e all))
 
   -- a line was read, or not
   module _ (row : List ℤ) (r : ℕ) (i : AccountIs (lineRead (accountOf k) (drop q text)) (q + indexOf LF (drop q text) + 1) row r) (h : j < count) where
-    pub reading-bad : r ≡ 0 → AccountsMeet text p count k members numbers kinds npvs margins extras (Stopped j)
+    pub reading-bad : r ≡ 0 → AccountsMeet text p count k columns npvs (Stopped j)
     unfolding AccountsMeet
     reading-bad z =
         (h, λ g number at e. b .due g number at e h ∙ line-bad g _ at count (at + 1 + j) text p q (omega (arith, b .far)) (read-by g e ∙ account-zero _ _ row r i (omega arith) z))
@@ -85,12 +85,11 @@ module _ {text : List ℕ} {p count k j q : ℕ} {members numbers kinds : List �
       pub next-is : q + indexOf LF (drop q text) + 1 ≡ r
       next-is = sym (account-read _ _ row r i z .1)
 
-      pub reading-over : 65536 < r - p → AccountsMeet text p count k members numbers kinds npvs margins extras (Stopped j)
+      pub reading-over : 65536 < r - p → AccountsMeet text p count k columns npvs (Stopped j)
       unfolding AccountsMeet
       reading-over l = (h, λ g number at e. b .due g number at e h ∙ line-over g _ at count (at + 1 + j) text p q (omega (arith, b .far)) (omega (arith, next-is)))
 
-      module _ {members′ numbers′ kinds′ : List ℕ} {npvs′ : List ℤ} {margins′ extras′ : List ℕ}
-          (s : Stored j k row members numbers kinds npvs margins extras members′ numbers′ kinds′ npvs′ margins′ extras′) (l : r - p ≤ 65536) where
+      module _ (columns′ : List ℕ) (npvs′ : List ℤ) (s : Stored j k row columns npvs columns′ npvs′) (l : r - p ≤ 65536) where
         read : lineRead (accountOf k) (drop q text) ≡ some (accountIn row)
         read = account-read _ _ row r i z .0
 
@@ -98,12 +97,12 @@ module _ {text : List ℕ} {p count k j q : ℕ} {members numbers kinds : List �
         within = omega (arith, next-is)
 
         abbrev day : ℕ → DayInput
-        day number = dayRead number (j + 1) k members′ numbers′ kinds′ npvs′ margins′ extras′
+        day number = dayRead number (j + 1) k columns′ npvs′
 
         many : (number : ℕ) → length (day number .headings) ≡ j + 1
-        many number = table-length (headingAt members′ numbers′ kinds′) 0 (j + 1)
+        many number = table-length (headingAt (columnAt 0 columns′) (columnAt 1 columns′) (columnAt 2 columns′)) 0 (j + 1)
 
-        pub reading-more : r ≤ length text → ReadSoFar text p count k (j + 1) r members′ numbers′ kinds′ npvs′ margins′ extras′
+        pub reading-more : r ≤ length text → ReadSoFar text p count k (j + 1) r columns′ npvs′
         reading-more m =
             record {
               far = omega (arith, b .far, next-is);

@@ -1,4 +1,5 @@
-pub mod Rows
+pub mod Npvs
+pub mod Columns
 pub mod Line
 pub mod Stores
 pub mod AcctLoop

@@ -1,4 +1,4 @@
-// A day's acct lines, read one after another into the slices of a day call.
+// A day's acct lines, read one after another into columns.
 use lines::Lines;
 use lines::account_at;
 ghost use mathlib.Core.Bool.{false};
@@ -9,7 +9,7 @@ ghost use lib.IntN.{pos};
 ghost use lib.ListN.{length, getD, set, drop};
 ghost use Rattle.numbers.specs.Signed.{_⁺};
 ghost use Rattle.lines.specs.Forms.{isNegative, signsWrong};
-ghost use Rattle.accounts.specs.AcctLines.{AccountsMeet};
+ghost use Rattle.accounts.specs.AcctLines.{RowStored, AccountsMeet};
 
 // "A day's acct lines hold at most 65,536 bytes with their LFs".
 const MOST_BYTES: usize = 65_536;
@@ -22,29 +22,17 @@ fn store_one(row: &[i64], i: usize, column: &mut [u64], j: usize)
     column[j] = row[i] as u64;
 }
 
-// An account's row into place j of the slices, all but its NPVs.
-fn store(
-    row: &[i64],
-    j: usize,
-    members: &mut [u64],
-    numbers: &mut [u64],
-    kinds: &mut [u64],
-    margins: &mut [u64],
-    extras: &mut [u64],
-)
+// An account's row into place j of each column, all but its NPVs.
+fn store(row: &[i64], j: usize, columns: &mut [u64])
     requires { ⌜ (6 ≤ length (now row)) × (signsWrong (now row) ≡ false) × (isNegative (getD (now row) 2 (pos 0)) ≡ false) ⌝ }
-    requires { ⌜ (j < length (now members)) × (j < length (now numbers)) × (j < length (now kinds)) × (j < length (now margins)) × (j < length (now extras)) ⌝ }
-    ensures { λ r. ⌜ now (members .exit) ≡ set (now (members .entry)) j (getD (now (row .entry)) 0 (pos 0) ⁺) ⌝ }
-    ensures { λ r. ⌜ now (numbers .exit) ≡ set (now (numbers .entry)) j (getD (now (row .entry)) 1 (pos 0) ⁺) ⌝ }
-    ensures { λ r. ⌜ now (kinds .exit) ≡ set (now (kinds .entry)) j (getD (now (row .entry)) 2 (pos 0) ⁺) ⌝ }
-    ensures { λ r. ⌜ now (margins .exit) ≡ set (now (margins .entry)) j (getD (now (row .entry)) 4 (pos 0) ⁺) ⌝ }
-    ensures { λ r. ⌜ now (extras .exit) ≡ set (now (extras .entry)) j (getD (now (row .entry)) 5 (pos 0) ⁺) ⌝ }
+    requires { ⌜ (j < 256) × (length (now columns) ≡ 1280) ⌝ }
+    ensures { λ r. ⌜ RowStored (now (row .entry)) j (now (columns .entry)) (now (columns .exit)) ⌝ }
 {
-    store_one(row, 0, members, j);
-    store_one(row, 1, numbers, j);
-    store_one(row, 2, kinds, j);
-    store_one(row, 4, margins, j);
-    store_one(row, 5, extras, j);
+    store_one(row, 0, columns, j);
+    store_one(row, 1, columns, 256 + j);
+    store_one(row, 2, columns, 512 + j);
+    store_one(row, 4, columns, 768 + j);
+    store_one(row, 5, columns, 1024 + j);
 }
 
 // The base and the stresses of an account's row: its NPVs.
@@ -61,38 +49,36 @@ fn store_npvs(row: &[i64], npvs: &mut [i64])
     }
 }
 
-// Reads `count` acct lines from index p on, each account into its place of the slices. The row has a place for each number of a line.
+// Reads `count` acct lines from index p on, each account with k stresses, into its place of the columns and of the NPVs.
 pub fn read_accounts(
     text: &[u8],
     p: usize,
     count: usize,
-    row: &mut [i64],
-    members: &mut [u64],
-    numbers: &mut [u64],
-    kinds: &mut [u64],
+    k: usize,
+    columns: &mut [u64],
     npvs: &mut [i64],
-    margins: &mut [u64],
-    extras: &mut [u64],
 ) -> Lines
     requires { ⌜ p ≤ length (now text) ⌝ }
-    requires { ⌜ (1 ≤ count) × (7 ≤ length (now row)) × (count * (length (now row) - 5) ≤ length (now npvs)) ⌝ }
-    requires { ⌜ (count ≤ length (now members)) × (count ≤ length (now numbers)) × (count ≤ length (now kinds)) × (count ≤ length (now margins)) × (count ≤ length (now extras)) ⌝ }
-    ensures { λ r. ⌜ AccountsMeet (now (text .entry)) p count (length (now (row .entry)) - 6) (now (members .exit)) (now (numbers .exit)) (now (kinds .exit)) (now (npvs .exit)) (now (margins .exit)) (now (extras .exit)) r ⌝ }
+    requires { ⌜ (1 ≤ count) × (count ≤ 256) × (1 ≤ k) × (k ≤ 16) ⌝ }
+    requires { ⌜ (length (now columns) ≡ 1280) × (count * (k + 1) ≤ length (now npvs)) ⌝ }
+    ensures { λ r. ⌜ AccountsMeet (now (text .entry)) p count k (now (columns .exit)) (now (npvs .exit)) r ⌝ }
 {
-    let width = row.len() - 5;
+    let mut row = [0i64; 22];
+    let fields = k + 6;
+    let width = k + 1;
     let mut at = p;
     let mut j: usize = 0;
     while j < count {
-        let next = account_at(text, at, row);
+        let next = account_at(text, at, &mut row[..fields]);
         if next == 0 {
             return Lines::Stopped(j);
         }
         if MOST_BYTES < next - p {
             return Lines::Stopped(j);
         }
-        store(row, j, members, numbers, kinds, margins, extras);
+        store(&row[..fields], j, columns);
         let from = j * width;
-        store_npvs(row, &mut npvs[from..from + width]);
+        store_npvs(&row[..fields], &mut npvs[from..from + width]);
         at = next;
         j += 1;
     }

@@ -1,3 +1,3 @@
-pub mod Rows
+pub mod RefusalRows
 pub mod Outcomes
-pub mod Calls
+pub mod CallsSaid

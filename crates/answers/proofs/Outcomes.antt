@@ -26,7 +26,7 @@ use Rattle.period.specs.declared.Reply.{Reply}
 use Rattle.period.specs.Reading.{answerOf}
 use Rattle.period.specs.Calls.{held, statusOf, openingRow, OpeningMeets, dayRow, DayMeets, closingRow, ClosingMeets}
 use Rattle.answers.specs.Said.{widthSaid, lineSaid}
-use Rattle.answers.proofs.Rows.{is-clear, is-row-at}
+use Rattle.answers.proofs.RefusalRows.{is-clear, is-row-at}
 
 -- an accepted call has as many figures as it returns
 same-count : (x : Refusal) (xs ys : List ℕ) → accepted ys ≡ answerBy x xs → length xs ≡ length ys

@@ -6,7 +6,8 @@ use Prim.Native.Nat.{ℕ, _+_, _-_, _*_, _≤_, _<_}
 use native.Mathlib.Nat.{mul-le-mul}
 use native.Mathlib.Omega.{arith}
 use lib.IntN.{ℤ}
-use lib.ListN.{length, drop, length-map}
+use lib.ListN.{length, take, drop, length-map, length-append}
+use lib.Seq.{length-take-le}
 use Rattle.numbers.specs.Lists.{range}
 use Rattle.numbers.proofs.Lists.{range-length}
 use Rattle.methodology.specs.Account.{DayInput, headingAt}
@@ -17,22 +18,34 @@ use Rattle.report.proofs.Laws.{put-then}
 use Rattle.period.specs.declared.Period.{Period}
 use Rattle.period.specs.declared.Reply.{Reply}
 use Rattle.period.specs.Calls.{DayMeets}
-use Rattle.answers.specs.Held.{Held}
+use Rattle.answers.specs.InStep.{InStep}
 use Rattle.answers.specs.Said.{said, isOver}
 use Rattle.answers.proofs.Outcomes.{OfDay, day-outcome}
-use Rattle.answers.proofs.Calls.{day-said, day-held}
+use Rattle.answers.proofs.CallsSaid.{day-said, day-in-step}
 use Rattle.lines.specs.declared.Lines.{Lines}
 use Rattle.lines.specs.declared.Lines.the-variants.{Read, Stopped}
-use Rattle.accounts.specs.AcctLines.{dayRead, accountsDue, dayDue, AccountsMeet}
+use Rattle.accounts.specs.AcctLines.{columnAt, dayRead, accountsDue, dayDue, AccountsMeet}
 use Rattle.day.specs.declared.Turn.{Turn}
 use Rattle.day.specs.Turns.{daysDue, TurnMeets, ended, goes-on, Stands}
 
 -- ---- the call of a day that was read
 
-pub read-outcome : (count : ℕ) (members numbers kinds : List ℕ) {period : Period} {d : DayInput} {before figures : List ℕ} {r : Reply}
-    → d .headings ≡ map (headingAt members numbers kinds) (range 0 count) → DayMeets period d before r figures → OfDay count (r .outcome)
-read-outcome count members numbers kinds {r = r} e m =
-    subst (λ (c : ℕ). OfDay c (r .outcome)) (ap length e ∙ length-map (range 0 count) (headingAt members numbers kinds) ∙ range-length 0 count) (day-outcome m)
+pub read-outcome : (count k number : ℕ) (columns : List ℕ) (npvs : List ℤ) {period : Period} {before figures : List ℕ} {r : Reply}
+    → DayMeets period (dayRead number count k columns npvs) before r figures → OfDay count (r .outcome)
+read-outcome count k number columns npvs {r = r} m =
+    let heading = headingAt (columnAt 0 columns) (columnAt 1 columns) (columnAt 2 columns) in
+    subst (λ (c : ℕ). OfDay c (r .outcome)) (length-map (range 0 count) heading ∙ range-length 0 count) (day-outcome m)
+
+-- the first n of an array, where n figures were written into it
+module _ (figures rest : List ℕ) (n : ℕ) (long : length figures ≡ n) where
+  pub figures-fit : n ≤ length (figures ++ rest)
+  figures-fit = omega (arith, length-append figures rest)
+
+  pub figures-cut : n ≡ length (take n (figures ++ rest))
+  figures-cut = sym (length-take-le n (figures ++ rest) figures-fit)
+
+  pub figures-wide : (width : ℕ) → width ≤ n → width ≤ length (take n (figures ++ rest))
+  figures-wide width h = omega (arith, figures-cut)
 
 -- ---- a day's acct lines
 
@@ -41,70 +54,66 @@ npvs-fit count k size h l s =
     let z : count * (k + 1) ≤ 256 * 17 = mul-le-mul {m₁ = k + 1} {m₂ = 17} h (omega arith) in
     omega arith
 
-pub npvs-few : (count k w size : ℕ) → count ≤ 256 → k ≤ 16 → w ≡ k + 6 → size ≡ 4352 → count * (w - 5) ≤ size
-npvs-few count k w size h l e s =
-    let z : w - 5 ≡ k + 1 = omega arith in
-    rw z (npvs-fit count k size h l s)
-
-module _ (text : List ℕ) (p count k w : ℕ) (wide : w ≡ k + 6) (members numbers kinds : List ℕ) (npvs : List ℤ) (margins extras : List ℕ) (r : Lines)
-    (m : AccountsMeet text p count (w - 6) members numbers kinds npvs margins extras r) where
-  width : w - 6 ≡ k
-  width = omega arith
-
-  abbrev Told : Lines → Type 0
-  Told r = AccountsMeet text p count (w - 6) members numbers kinds npvs margins extras r
-
+module _ (text : List ℕ) (p count k : ℕ) (columns : List ℕ) (npvs : List ℤ) (r : Lines) (m : AccountsMeet text p count k columns npvs r) where
   module _ (j : ℕ) (e : r ≡ Stopped j) where
+    told-stopped : AccountsMeet text p count k columns npvs (Stopped j)
+    told-stopped = subst (AccountsMeet text p count k columns npvs) e m
+
     pub stopped-few : j < count
     unfolding AccountsMeet
-    stopped-few = subst Told e m .0
+    stopped-few = told-stopped .0
 
-    pub stopped-due : (g : Register) (period : Period) (n number line : ℕ) → Held g period n k → accountsDue text p g number line count ≡ refusedLine 9 (line + 1 + j)
+    pub stopped-due : (g : Register) (period : Period) (n number line : ℕ) → InStep g period n k → accountsDue text p g number line count ≡ refusedLine 9 (line + 1 + j)
     unfolding AccountsMeet
-    stopped-due g period n number line h = subst Told e m .1 g number line (h .scenarios ∙ sym width)
+    stopped-due g period n number line h = told-stopped .1 g number line (h .scenarios)
 
   module _ (next : ℕ) (e : r ≡ Read next) where
+    told-read : AccountsMeet text p count k columns npvs (Read next)
+    told-read = subst (AccountsMeet text p count k columns npvs) e m
+
     pub read-inside : (p + count ≤ next) × (next ≤ length text)
     unfolding AccountsMeet
-    read-inside = (subst Told e m .0, subst Told e m .1)
+    read-inside = (told-read .0, told-read .1)
 
-    pub read-due : (g : Register) (period : Period) (n number line : ℕ) → Held g period n k
-        → accountsDue text p g number line count ≡ dayDue text next g (dayRead number count k members numbers kinds npvs margins extras) line count
+    pub read-due : (g : Register) (period : Period) (n number line : ℕ) → InStep g period n k
+        → accountsDue text p g number line count ≡ dayDue text next g (dayRead number count k columns npvs) line count
     unfolding AccountsMeet
-    read-due g period n number line h =
-        subst Told e m .2 g number line (h .scenarios ∙ sym width) ∙ ap (λ (x : ℕ). dayDue text next g (dayRead number count x members numbers kinds npvs margins extras) line count) width
+    read-due g period n number line h = told-read .2 g number line (h .scenarios)
 
 -- ---- turns
 
 -- what a call says is its turn
-module _ (text : List ℕ) (n k : ℕ) (g : Register) (period : Period) (h : Held g period n k) (d : DayInput) (line count next : ℕ)
+module _ (text : List ℕ) (n k : ℕ) (g : Register) (period : Period) (h : InStep g period n k) (d : DayInput) (line count next : ℕ)
     (before : List ℕ) (r : Reply) (figures : List ℕ) (m : DayMeets period d before r figures) (room : length before ≡ 5 * n)
     (out : List ℕ) (at : ℕ) (out′ : List ℕ) (end : ℕ) where
   abbrev after : Register
   after = step g (Call.day d (5 * g .held .n))
 
+  abbrev turn : Turn
+  turn = record { over = isOver (r .outcome); to = record { next = next; line = line + 1 + count; at = end; period = r .period } }
+
   due-is : dayDue text next g d line count ≡ said (r .outcome) (d .number) line n figures ++ cond (isOver (r .outcome)) [] (daysDue text next (line + 1 + count) after)
   due-is = day-said n k g period h d line before r figures m room (reportFrom (line + 1 + count) (split LF (drop next text)))
 
   pub said-turn : Put out at (said (r .outcome) (d .number) line n figures) out′ end
-      → TurnMeets (dayDue text next g d line count) text n k out at out′ (record { over = isOver (r .outcome); next = next; line = line + 1 + count; at = end; period = r .period })
+      → TurnMeets (dayDue text next g d line count) text n k out at out′ turn
   said-turn w = by (isOver (r .outcome)) refl
     where
       by : (t : Bool) → isOver (r .outcome) ≡ t
-          → TurnMeets (dayDue text next g d line count) text n k out at out′ (record { over = isOver (r .outcome); next = next; line = line + 1 + count; at = end; period = r .period })
+          → TurnMeets (dayDue text next g d line count) text n k out at out′ turn
       by true q = ended q (rw (due-is, q, append-nil (said (r .outcome) (d .number) line n figures)) w)
-      by false q = goes-on q after (said (r .outcome) (d .number) line n figures) (day-held n k g period h d line before r figures m room q) w (rw (due-is, q))
+      by false q = goes-on q after (said (r .outcome) (d .number) line n figures) (day-in-step n k g period h d line before r figures m room q) w (rw (due-is, q))
 
 module _ {due text before after : List ℕ} {n k at : ℕ} {t : Turn} where
   pub same-due : {due′ : List ℕ} → due′ ≡ due → TurnMeets due text n k before at after t → TurnMeets due′ text n k before at after t
   same-due e m = subst (λ (x : List ℕ). TurnMeets x text n k before at after t) (sym e) m
 
-  pub turn-over : TurnMeets due text n k before at after t → t .over ≡ true → Put before at due after (t .at)
+  pub turn-over : TurnMeets due text n k before at after t → t .over ≡ true → Put before at due after (t .to .at)
   turn-over (ended o w) e = w
   turn-over (goes-on o g lines h w q) e = absurd (true≢false (sym e ∙ o))
 
   pub turn-on : {final : List ℕ} {r : ℕ} → TurnMeets due text n k before at after t → t .over ≡ false
-      → ((g : Register) → Held g (t .period) n k → Put after (t .at) (daysDue text (t .next) (t .line) g) final r) → Put before at due final r
+      → ((g : Register) → InStep g (t .to .period) n k → Put after (t .to .at) (daysDue text (t .to .next) (t .to .line) g) final r) → Put before at due final r
   turn-on (ended o w) e f = absurd (true≢false (sym o ∙ e))
   turn-on {final} {r} (goes-on o g lines h w q) e f = subst (λ (x : List ℕ). Put before at x final r) (sym q) (put-then w (f g h))
 
@@ -116,7 +125,7 @@ pub over-stands : (text : List ℕ) (least : ℕ) (t : Turn) → t .over ≡ tru
 unfolding Stands
 over-stands text least t e = λ o. absurd (true≢false (sym e ∙ o))
 
-pub stands-at : (text : List ℕ) (least next line : ℕ) (t : Turn) → t .next ≡ next → t .line ≡ line → least ≤ next → next ≤ length text → line ≤ next + 1 → Stands text least t
+pub stands-at : (text : List ℕ) (least next line : ℕ) (t : Turn) → t .to .next ≡ next → t .to .line ≡ line → least ≤ next → next ≤ length text → line ≤ next + 1 → Stands text least t
 unfolding Stands
 stands-at text least next line t e f a b c = λ o. (omega arith, omega arith, omega arith)
 
@@ -124,6 +133,6 @@ pub stands-before : (text : List ℕ) (least less : ℕ) (t : Turn) → less ≤
 unfolding Stands
 stands-before text least less t h s = λ o. let (a, b, c) = s o in (omega arith, b, c)
 
-pub on-stands : (text : List ℕ) (least : ℕ) (t : Turn) → Stands text least t → t .over ≡ false → (least ≤ t .next) × (t .next ≤ length text) × (t .line ≤ t .next + 1)
+pub on-stands : (text : List ℕ) (least : ℕ) (t : Turn) → Stands text least t → t .over ≡ false → (least ≤ t .to .next) × (t .to .next ≤ length text) × (t .to .line ≤ t .to .next + 1)
 unfolding Stands
 on-stands text least t s o = s o

@@ -8,222 +8,151 @@ use period::Reply;
 use report::put_refused;
 ghost use mathlib.Core.List.{List};
 ghost use mathlib.Core.Path.{_≡_};
+ghost use mathlib.Core.Bool.{true};
 ghost use Prim.Native.Nat.{_+_, _*_, _≤_, _<_, _^_, ℕ};
 ghost use lib.ListN.{length};
 ghost use Rattle.methodology.specs.Register.{Register};
+ghost use Rattle.methodology.specs.Text.{refusedLine};
+ghost use Rattle.report.specs.Put.{Put};
 ghost use Rattle.period.specs.Calls.{DayMeets};
 ghost use Rattle.accounts.specs.AcctLines.{dayRead, accountsDue, dayDue};
-ghost use Rattle.answers.specs.Held.{Held};
-ghost use Rattle.day.specs.Turns.{TurnMeets, Stands};
+ghost use Rattle.answers.specs.InStep.{InStep};
+ghost use Rattle.day.specs.Turns.{endedAt, TurnMeets, Stands};
 
-// What a turn comes to: the report is over, or days go on at index `next`, which is line `line`. `at` is the index after what was printed.
-pub struct Turn {
-    pub over: bool,
+// How far a report has come: the next line is line `line`, at index `next` of the text, `at` is the index after what was printed, and the
+// calls so far have left the period.
+pub struct Progress {
     pub next: usize,
     pub line: u64,
     pub at: usize,
     pub period: Period,
 }
 
-// Makes the day call of the first `count` accounts in the slices.
+// What a turn comes to: the report is over, or days go on from there. Of a report that is over only `at` counts.
+pub struct Turn {
+    pub over: bool,
+    pub to: Progress,
+}
+
+// A report that is over, and ends before index `end` of the output.
+pub fn ended(mut from: Progress, end: usize) -> Turn
+    ensures { λ r. ⌜ r ≡ endedAt from end ⌝ }
+{
+    from.at = end;
+    Turn {
+        over: true,
+        to: from,
+    }
+}
+
+// A report that ends with a refusal.
+pub fn refused(from: Progress, number: u64, line: u64, out: &mut [u8]) -> Turn
+    ensures { λ r. ⌜ (r .over ≡ true) × Put (now (out .entry)) (from .at) (refusedLine number line) (now (out .exit)) (r .to .at) ⌝ }
+{
+    let end = put_refused(out, from.at, number, line);
+    ended(from, end)
+}
+
+// Makes the day call of the first `count` accounts in the columns.
 fn size_day(
     period: Period,
     number: u64,
     count: usize,
     k: usize,
-    members: &[u64],
-    numbers: &[u64],
-    kinds: &[u64],
+    columns: &[u64],
     npvs: &[i64],
-    margins: &[u64],
-    extras: &[u64],
     figures: &mut [u64],
 ) -> Reply
-    requires { ⌜ (k ≤ 16) × (count ≤ 256) × (count * (k + 1) ≤ length (now npvs)) × (count ≤ length (now margins)) × (count ≤ length (now extras)) ⌝ }
-    ensures { λ r. ⌜ DayMeets period (dayRead number count k (now (members .entry)) (now (numbers .entry)) (now (kinds .entry)) (now (npvs .entry)) (now (margins .entry)) (now (extras .entry))) (now (figures .entry)) r (now (figures .exit)) ⌝ }
+    requires { ⌜ (k ≤ 16) × (count ≤ 256) × (length (now columns) ≡ 1280) × (count * (k + 1) ≤ length (now npvs)) ⌝ }
+    ensures { λ r. ⌜ DayMeets period (dayRead number count k (now (columns .entry)) (now (npvs .entry))) (now (figures .entry)) r (now (figures .exit)) ⌝ }
 {
-    let headings = headings::pack(members, numbers, kinds);
+    let headings = headings::pack(&columns[..256], &columns[256..512], &columns[512..768]);
     let width = count * (k + 1);
     period.day_of(
         number,
         headings,
         count,
         &npvs[..width],
-        &margins[..count],
-        &extras[..count],
+        &columns[768..768 + count],
+        &columns[1024..1024 + count],
         figures,
     )
 }
 
-// A day's turn where its acct lines are read and the next line stands at index `next`: the call is made and printed.
+// A day's turn where its acct lines are read: the text goes on at `from`, whose line is still the day line. The call is made and printed.
 fn sized_turn(
-    period: Period,
+    from: Progress,
     number: u64,
-    line: u64,
     count: usize,
     n: usize,
     k: usize,
-    next: usize,
-    members: &[u64],
-    numbers: &[u64],
-    kinds: &[u64],
+    columns: &[u64],
     npvs: &[i64],
-    margins: &[u64],
-    extras: &[u64],
-    figures: &mut [u64],
     out: &mut [u8],
-    at: usize,
 ) -> Turn
-    requires { ⌜ (count ≤ 256) × (n ≤ 32) × (k ≤ 16) × (line + 257 < 2 ^ 64) ⌝ }
-    requires { ⌜ (count * (k + 1) ≤ length (now npvs)) × (count ≤ length (now margins)) × (count ≤ length (now extras)) × (length (now figures) ≡ 5 * n) ⌝ }
-    ensures { λ r. ⌜ ((g : Register) (text : List ℕ) → Held g period n k → TurnMeets (dayDue text next g (dayRead number count k (now (members .entry)) (now (numbers .entry)) (now (kinds .entry)) (now (npvs .entry)) (now (margins .entry)) (now (extras .entry))) line count) text n k (now (out .entry)) at (now (out .exit)) r) ⌝ }
-    ensures { λ r. ⌜ (r .next ≡ next) × (r .line ≡ line + 1 + count) ⌝ }
+    requires { ⌜ (count ≤ 256) × (n ≤ 32) × (k ≤ 16) × (from .line + 257 < 2 ^ 64) ⌝ }
+    requires { ⌜ (length (now columns) ≡ 1280) × (count * (k + 1) ≤ length (now npvs)) ⌝ }
+    ensures { λ r. ⌜ ((g : Register) (text : List ℕ) → InStep g (from .period) n k → TurnMeets (dayDue text (from .next) g (dayRead number count k (now (columns .entry)) (now (npvs .entry))) (from .line) count) text n k (now (out .entry)) (from .at) (now (out .exit)) r) ⌝ }
+    ensures { λ r. ⌜ (r .to .next ≡ from .next) × (r .to .line ≡ from .line + 1 + count) ⌝ }
 {
+    let mut figures = [0u64; 160];
+    let room = 5 * n;
+    let period = from.period;
     let reply = size_day(
         period,
         number,
         count,
         k,
-        members,
-        numbers,
-        kinds,
+        columns,
         npvs,
-        margins,
-        extras,
-        figures,
+        &mut figures[..room],
     );
     let outcome = reply.outcome;
     let after = reply.period;
-    let end = say(outcome, number, line, n, figures, out, at);
-    Turn {
-        over: is_over(outcome),
-        next,
-        line: line + 1 + count as u64,
+    let end = say(
+        outcome,
+        number,
+        from.line,
+        n,
+        &figures[..room],
+        out,
+        from.at,
+    );
+    let to = Progress {
+        next: from.next,
+        line: from.line + 1 + count as u64,
         at: end,
         period: after,
+    };
+    Turn {
+        over: is_over(outcome),
+        to,
     }
 }
 
-// A day's turn, from its first acct line at index p on, with the slices to read it into; the day line is line `line`.
-fn day_in(
-    text: &[u8],
-    p: usize,
-    line: u64,
-    number: u64,
-    count: usize,
-    n: usize,
-    k: usize,
-    period: Period,
-    row: &mut [i64],
-    members: &mut [u64],
-    numbers: &mut [u64],
-    kinds: &mut [u64],
-    npvs: &mut [i64],
-    margins: &mut [u64],
-    extras: &mut [u64],
-    figures: &mut [u64],
-    out: &mut [u8],
-    at: usize,
-) -> Turn
-    requires { ⌜ (p ≤ length (now text)) × (line ≤ p) ⌝ }
-    requires { ⌜ (1 ≤ count) × (count ≤ 256) × (n ≤ 32) × (1 ≤ k) × (k ≤ 16) ⌝ }
-    requires { ⌜ (length (now row) ≡ k + 6) × (length (now npvs) ≡ 4352) × (length (now figures) ≡ 5 * n) ⌝ }
-    requires { ⌜ (length (now members) ≡ 256) × (length (now numbers) ≡ 256) × (length (now kinds) ≡ 256) × (length (now margins) ≡ 256) × (length (now extras) ≡ 256) ⌝ }
-    ensures { λ r. ⌜ ((g : Register) → Held g period n k → TurnMeets (accountsDue (now (text .entry)) p g number line count) (now (text .entry)) n k (now (out .entry)) at (now (out .exit)) r) ⌝ }
-    ensures { λ r. ⌜ Stands (now (text .entry)) p r ⌝ }
-{
-    let lines = read_accounts(
-        text,
-        p,
-        count,
-        row,
-        members,
-        numbers,
-        kinds,
-        npvs,
-        margins,
-        extras,
-    );
-    match lines {
-        Lines::Stopped(j) => {
-            let end = put_refused(out, at, 9, line + 1 + j as u64);
-            Turn {
-                over: true,
-                next: p,
-                line,
-                at: end,
-                period,
-            }
-        }
-        Lines::Read(next) => {
-            sized_turn(
-                period,
-                number,
-                line,
-                count,
-                n,
-                k,
-                next,
-                members,
-                numbers,
-                kinds,
-                npvs,
-                margins,
-                extras,
-                figures,
-                out,
-                at,
-            )
-        }
-    }
-}
-
-// The same, with slices of its own.
+// A day's turn from its first acct line on, which stands at `from`, whose line is still the day line.
 pub fn take_day(
     text: &[u8],
-    p: usize,
-    line: u64,
+    mut from: Progress,
     number: u64,
     count: usize,
     n: usize,
     k: usize,
-    period: Period,
     out: &mut [u8],
-    at: usize,
 ) -> Turn
-    requires { ⌜ (p ≤ length (now text)) × (line ≤ p) ⌝ }
+    requires { ⌜ (from .next ≤ length (now text)) × (from .line ≤ from .next) ⌝ }
     requires { ⌜ (1 ≤ count) × (count ≤ 256) × (n ≤ 32) × (1 ≤ k) × (k ≤ 16) ⌝ }
-    ensures { λ r. ⌜ ((g : Register) → Held g period n k → TurnMeets (accountsDue (now (text .entry)) p g number line count) (now (text .entry)) n k (now (out .entry)) at (now (out .exit)) r) ⌝ }
-    ensures { λ r. ⌜ Stands (now (text .entry)) p r ⌝ }
+    ensures { λ r. ⌜ ((g : Register) → InStep g (from .period) n k → TurnMeets (accountsDue (now (text .entry)) (from .next) g number (from .line) count) (now (text .entry)) n k (now (out .entry)) (from .at) (now (out .exit)) r) ⌝ }
+    ensures { λ r. ⌜ Stands (now (text .entry)) (from .next) r ⌝ }
 {
-    let mut row = [0i64; 22];
-    let mut members = [0u64; 256];
-    let mut numbers = [0u64; 256];
-    let mut kinds = [0u64; 256];
+    let mut columns = [0u64; 1280]; // members, account numbers, kinds, margins, extras
     let mut npvs = [0i64; 4352];
-    let mut margins = [0u64; 256];
-    let mut extras = [0u64; 256];
-    let mut figures = [0u64; 160];
-    let width = k + 6;
-    let room = 5 * n;
-    day_in(
-        text,
-        p,
-        line,
-        number,
-        count,
-        n,
-        k,
-        period,
-        &mut row[..width],
-        &mut members,
-        &mut numbers,
-        &mut kinds,
-        &mut npvs,
-        &mut margins,
-        &mut extras,
-        &mut figures[..room],
-        out,
-        at,
-    )
+    let lines = read_accounts(text, from.next, count, k, &mut columns, &mut npvs);
+    match lines {
+        Lines::Stopped(j) => refused(from, 9, from.line + 1 + j as u64, out),
+        Lines::Read(next) => {
+            from.next = next;
+            sized_turn(from, number, count, n, k, &columns, &npvs, out)
+        }
+    }
 }

@@ -1,4 +1,4 @@
 pub mod Openings
-pub mod Turns
+pub mod LinesDue
 pub mod Whole
 pub mod Reported

@@ -24,9 +24,9 @@ use Rattle.period.specs.Reading.{brought}
 use Rattle.period.specs.Calls.{freshPeriod, OpeningMeets}
 use Rattle.report.specs.Put.{Put}
 use Rattle.report.proofs.Laws.{put-then}
-use Rattle.answers.specs.Held.{Held}
+use Rattle.answers.specs.InStep.{InStep}
 use Rattle.answers.specs.Said.{said, isOver}
-use Rattle.answers.proofs.Calls.{opening-said, opening-held}
+use Rattle.answers.proofs.CallsSaid.{opening-said, opening-in-step}
 use Rattle.day.specs.Turns.{daysDue}
 use Rattle.lines.specs.declared.Lines.{Lines}
 use Rattle.lines.specs.declared.Lines.the-variants.{Read, Stopped}
@@ -157,5 +157,5 @@ module _ (text : List ℕ) (n k next : ℕ) (groups : List ℕ) (r : Reply) (m :
   opening-ends q = rw (opening-said n k groups r m rest, q, append-nil (said (r .outcome) 0 1 0 [])) w
 
   pub opening-goes-on : (final : List ℕ) (last : ℕ) → isOver (r .outcome) ≡ false
-      → ((g : Register) → Held g (r .period) n k → Put out′ end (daysDue text next (2 + n) g) final last) → Put out 0 (openingDue text next (brought n k groups)) final last
-  opening-goes-on final last q f = rw (opening-said n k groups r m rest, q) (put-then w (f _ (opening-held n k groups r m q)))
+      → ((g : Register) → InStep g (r .period) n k → Put out′ end (daysDue text next (2 + n) g) final last) → Put out 0 (openingDue text next (brought n k groups)) final last
+  opening-goes-on final last q f = rw (opening-said n k groups r m rest, q) (put-then w (f _ (opening-in-step n k groups r m q)))

@@ -1,9 +1,11 @@
 // The days of a month and its end.
 use answers::say;
+use day::Progress;
 use day::Turn;
+use day::ended;
+use day::refused;
 use day::take_day;
 use lines::numbers_at;
-use period::Period;
 use report::put_refused;
 use validation::limits::count_outside;
 ghost use mathlib.Core.Path.{_≡_};
@@ -13,7 +15,7 @@ ghost use Rattle.methodology.specs.Register.{Call, Register, refusal};
 ghost use Rattle.methodology.specs.Lines.{isEnd};
 ghost use Rattle.methodology.specs.Text.{LF, afterEnd, split, closed, reportFrom};
 ghost use Rattle.report.specs.Put.{Put};
-ghost use Rattle.answers.specs.Held.{Held};
+ghost use Rattle.answers.specs.InStep.{InStep};
 ghost use Rattle.day.specs.Turns.{daysDue, TurnMeets, Stands};
 
 // Whether the line at index p is the end line.
@@ -29,126 +31,64 @@ fn is_end(text: &[u8], p: usize) -> bool
 }
 
 // Makes the closing call and prints what it says.
-fn close(
-    line: u64,
-    n: usize,
-    period: Period,
-    figures: &mut [u64],
-    out: &mut [u8],
-    at: usize,
-) -> usize
+fn close(from: Progress, n: usize, figures: &mut [u64], out: &mut [u8]) -> usize
     requires { ⌜ (n ≤ 32) × (length (now figures) ≡ 3 * n) ⌝ }
-    ensures { λ r. ⌜ ((g : Register) (k : ℕ) → Held g period n k → Put (now (out .entry)) at (closed (refusal g (Call.closing (3 * g .held .n))) g line) (now (out .exit)) r) ⌝ }
+    ensures { λ r. ⌜ ((g : Register) (k : ℕ) → InStep g (from .period) n k → Put (now (out .entry)) (from .at) (closed (refusal g (Call.closing (3 * g .held .n))) g (from .line)) (now (out .exit)) r) ⌝ }
 {
+    let period = from.period;
     let reply = period.closing(figures);
     let outcome = reply.outcome;
-    say(outcome, 0, line, n, figures, out, at)
+    say(outcome, 0, from.line, n, figures, out, from.at)
 }
 
-// The report after the end line, which is line `line`: nothing follows it, and the closing call is made.
-fn end_at(
-    text: &[u8],
-    p: usize,
-    line: u64,
-    n: usize,
-    period: Period,
-    out: &mut [u8],
-    at: usize,
-) -> usize
-    requires { ⌜ (p ≤ length (now text)) × (line ≤ p) × (n ≤ 32) ⌝ }
-    ensures { λ r. ⌜ ((g : Register) (k : ℕ) → Held g period n k → Put (now (out .entry)) at (reportFrom (line + 1) (split LF (drop p (now (text .entry)))) (afterEnd g line)) (now (out .exit)) r) ⌝ }
+// The report from the end line on: nothing follows its 4 bytes, and the closing call is made.
+fn end_at(text: &[u8], from: Progress, n: usize, out: &mut [u8]) -> usize
+    requires { ⌜ (from .next + 4 ≤ length (now text)) × (from .line ≤ from .next + 1) × (n ≤ 32) ⌝ }
+    ensures { λ r. ⌜ ((g : Register) (k : ℕ) → InStep g (from .period) n k → Put (now (out .entry)) (from .at) (reportFrom (from .line + 1) (split LF (drop (from .next + 4) (now (text .entry)))) (afterEnd g (from .line))) (now (out .exit)) r) ⌝ }
 {
-    if p < text.len() {
-        return put_refused(out, at, 9, line + 1);
+    if from.next + 4 < text.len() {
+        return put_refused(out, from.at, 9, from.line + 1);
     }
     let mut figures = [0u64; 96];
     let room = 3 * n;
-    close(line, n, period, &mut figures[..room], out, at)
+    close(from, n, &mut figures[..room], out)
 }
 
 // One turn: the end line and what follows, or a day.
-fn turn_at(
-    text: &[u8],
-    p: usize,
-    line: u64,
-    n: usize,
-    k: usize,
-    period: Period,
-    out: &mut [u8],
-    at: usize,
-) -> Turn
-    requires { ⌜ (p ≤ length (now text)) × (line ≤ p + 1) ⌝ }
+fn turn_at(text: &[u8], mut from: Progress, n: usize, k: usize, out: &mut [u8]) -> Turn
+    requires { ⌜ (from .next ≤ length (now text)) × (from .line ≤ from .next + 1) ⌝ }
     requires { ⌜ (n ≤ 32) × (1 ≤ k) × (k ≤ 16) ⌝ }
-    ensures { λ r. ⌜ ((g : Register) → Held g period n k → TurnMeets (daysDue (now (text .entry)) p line g) (now (text .entry)) n k (now (out .entry)) at (now (out .exit)) r) ⌝ }
-    ensures { λ r. ⌜ Stands (now (text .entry)) (p + 1) r ⌝ }
+    ensures { λ r. ⌜ ((g : Register) → InStep g (from .period) n k → TurnMeets (daysDue (now (text .entry)) (from .next) (from .line) g) (now (text .entry)) n k (now (out .entry)) (from .at) (now (out .exit)) r) ⌝ }
+    ensures { λ r. ⌜ Stands (now (text .entry)) (from .next + 1) r ⌝ }
 {
-    if is_end(text, p) {
-        let end = end_at(text, p + 4, line, n, period, out, at);
-        return Turn {
-            over: true,
-            next: p,
-            line,
-            at: end,
-            period,
-        };
+    if is_end(text, from.next) {
+        let end = end_at(text, from, n, out);
+        return ended(from, end);
     }
     let mut head = [0u64; 2]; // day number, accounts
-    let next = numbers_at(text, p, b"day", &mut head);
+    let next = numbers_at(text, from.next, b"day", &mut head);
     if next == 0 {
-        let end = put_refused(out, at, 9, line);
-        return Turn {
-            over: true,
-            next: p,
-            line,
-            at: end,
-            period,
-        };
+        return refused(from, 9, from.line, out);
     }
     let number = head[0];
     let count = head[1];
     if count_outside(count) {
-        let end = put_refused(out, at, 4, line);
-        return Turn {
-            over: true,
-            next: p,
-            line,
-            at: end,
-            period,
-        };
+        return refused(from, 4, from.line, out);
     }
-    take_day(
-        text,
-        next,
-        line,
-        number,
-        count as usize,
-        n,
-        k,
-        period,
-        out,
-        at,
-    )
+    from.next = next;
+    take_day(text, from, number, count as usize, n, k, out)
 }
 
-// The report from index p on, which is line `line`: days, and the end.
-pub fn days(
-    text: &[u8],
-    p: usize,
-    line: u64,
-    n: usize,
-    k: usize,
-    period: Period,
-    out: &mut [u8],
-    at: usize,
-) -> usize
-    requires { ⌜ (p ≤ length (now text)) × (line ≤ p + 1) ⌝ }
+// The report from there on: days, and the end.
+pub fn days(text: &[u8], from: Progress, n: usize, k: usize, out: &mut [u8]) -> usize
+    requires { ⌜ (from .next ≤ length (now text)) × (from .line ≤ from .next + 1) ⌝ }
     requires { ⌜ (n ≤ 32) × (1 ≤ k) × (k ≤ 16) ⌝ }
-    ensures { λ r. ⌜ ((g : Register) → Held g period n k → Put (now (out .entry)) at (daysDue (now (text .entry)) p line g) (now (out .exit)) r) ⌝ }
+    ensures { λ r. ⌜ ((g : Register) → InStep g (from .period) n k → Put (now (out .entry)) (from .at) (daysDue (now (text .entry)) (from .next) (from .line) g) (now (out .exit)) r) ⌝ }
 {
-    let turn = turn_at(text, p, line, n, k, period, out, at);
+    let turn = turn_at(text, from, n, k, out);
+    let to = turn.to;
     if turn.over {
-        return turn.at;
+        return to.at;
     }
-    let after = turn.period;
-    days(text, turn.next, turn.line, n, k, after, out, turn.at)
+    days(text, to, n, k, out)
 }

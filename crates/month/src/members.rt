@@ -2,6 +2,7 @@
 use crate::days::days;
 use answers::is_over;
 use answers::say;
+use day::Progress;
 use lines::Lines;
 use lines::numbers_at;
 use period::Period;
@@ -57,5 +58,11 @@ pub fn from_members(text: &[u8], p: usize, n: usize, k: usize, out: &mut [u8]) -
     if is_over(outcome) {
         return end;
     }
-    days(text, next, 2 + n as u64, n, k, after, out, end)
+    let from = Progress {
+        next,
+        line: 2 + n as u64,
+        at: end,
+        period: after,
+    };
+    days(text, from, n, k, out)
 }

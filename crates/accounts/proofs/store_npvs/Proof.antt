@@ -6,12 +6,12 @@ use lib.ListN.{length, getD, length-set}
 use mir.Syntax.{w64}
 use Rattle.numbers.proofs.Signed.{back-ok}
 use borrow.Author.Needs.{needs}
-use Rattle.accounts.proofs.Rows.{Stored, stored-first, stored-more, stored-all}
+use Rattle.accounts.proofs.Npvs.{NpvsStored, npvs-first, npvs-more, npvs-all}
 use Rattle.accounts.proofs.store_npvs.Statement.{statement}
 use Rattle.accounts.proofs.store_npvs.Tie as tie
 
 abbrev Inv-loop : tie.InvT-loop
-Inv-loop row npvs₀ i₀ npvs i = (length npvs ≡ length npvs₀) × Stored row npvs i
+Inv-loop row npvs₀ i₀ npvs i = (length npvs ≡ length npvs₀) × NpvsStored row npvs i
 
 abbrev μ-loop : tie.MeasureT-loop
 μ-loop row npvs₀ i₀ npvs i = length npvs₀ - i
@@ -25,7 +25,7 @@ slice-set-from-npvs c = search needs
 loop-holds : tie.Need-loop-holds Inv-loop μ-loop
 loop-holds c =
     let s = c .before in
-    (refl, rw (back-ok w64 (getD (s .args .row .now) 3 (pos 0)) (c .npvs .given)) (stored-first (s .args .row .now) (s .args .npvs .now) (s .pre .1) (s .pre .0)))
+    (refl, rw (back-ok w64 (getD (s .args .row .now) 3 (pos 0)) (c .npvs .given)) (npvs-first (s .args .row .now) (s .args .npvs .now) (s .pre .1) (s .pre .0)))
 
 add-npvs : tie.Need-add-npvs Inv-loop μ-loop
 add-npvs c = search needs
@@ -52,13 +52,13 @@ loop-again : tie.Need-loop-again Inv-loop μ-loop
 loop-again c =
     let l = c .before .before .loop in
     let row = c .before .before .before .before .args .row .now in
-    rw (back-ok w64 (getD row (l .i + 5) (pos 0)) (c .npvs2 .given)) (length-set (l .npvs) (l .i) _ ∙ l .inv .0, stored-more row (l .npvs) (l .i) (c .before .loop-test .taken) (l .inv .1))
+    rw (back-ok w64 (getD row (l .i + 5) (pos 0)) (c .npvs2 .given)) (length-set (l .npvs) (l .i) _ ∙ l .inv .0, npvs-more row (l .npvs) (l .i) (c .before .loop-test .taken) (l .inv .1))
 
 same-length : tie.Need-same-length Inv-loop μ-loop
 same-length c = search needs
 
 returns : tie.Need-returns Inv-loop μ-loop
-returns c = stored-all (c .before .before .before .args .row .now) (c .before .loop .npvs) (c .before .loop .i) (c .loop-test .left) (c .before .loop .inv .1)
+returns c = npvs-all (c .before .before .before .args .row .now) (c .before .loop .npvs) (c .before .loop .i) (c .loop-test .left) (c .before .loop .inv .1)
 
 pub store-npvs-spec : {M : Type 1} → statement M
 store-npvs-spec =

@@ -1,73 +1,101 @@
--- `take_day` meets its contract: it lends arrays of its own, as long as a day can need.
-use mathlib.Core.Path.{refl, sym}
-use lib.Seq.{length-take-le}
+-- `take_day` meets its contract: its acct lines are read, or the first bad one ends the report; then the call is made.
+use mathlib.Core.Path.{refl}
+use native.Mathlib.Omega.{arith}
+use Rattle.day.specs.Turns.{ended}
+use Rattle.day.proofs.Steps.{npvs-fit, stopped-few, stopped-due, read-inside, read-due, same-due, same-put, over-stands, stands-at}
 use borrow.Author.Needs.{needs}
 use Rattle.day.proofs.take_day.Statement.{statement}
 use Rattle.day.proofs.take_day.Tie as tie
 
-add-width : tie.Need-add-width
-add-width c = search needs
+slice-aggregate-read-accounts : tie.Need-slice-aggregate-read-accounts
+slice-aggregate-read-accounts c = search needs
 
-mul-room : tie.Need-mul-room
-mul-room c = search needs
+slice-aggregate-read-accounts-2 : tie.Need-slice-aggregate-read-accounts-2
+slice-aggregate-read-accounts-2 c = search needs
 
-array-borrow-prefix-row : tie.Need-array-borrow-prefix-row
-array-borrow-prefix-row c = search needs
+read-accounts-requires : tie.Need-read-accounts-requires
+read-accounts-requires c κs =
+    let s = c .before .before .before .before in
+    let (least, most, members, scenario, scenarios) = s .pre .1 in
+    (s .pre .0 .0, ((least, most, scenario, scenarios), (refl, npvs-fit (s .args .count) (s .args .k) _ most scenarios refl)))
 
-slice-aggregate-day-in : tie.Need-slice-aggregate-day-in
-slice-aggregate-day-in c = sym (length-take-le _ _ (search needs))
+enum-known-lines : tie.Need-enum-known-lines
+enum-known-lines c = search needs
 
-slice-aggregate-day-in-2 : tie.Need-slice-aggregate-day-in-2
-slice-aggregate-day-in-2 c = search needs
+add-refused : tie.Need-add-refused
+add-refused c = search needs
 
-slice-aggregate-day-in-3 : tie.Need-slice-aggregate-day-in-3
-slice-aggregate-day-in-3 c = search needs
-
-slice-aggregate-day-in-4 : tie.Need-slice-aggregate-day-in-4
-slice-aggregate-day-in-4 c = search needs
-
-slice-aggregate-day-in-5 : tie.Need-slice-aggregate-day-in-5
-slice-aggregate-day-in-5 c = search needs
-
-slice-aggregate-day-in-6 : tie.Need-slice-aggregate-day-in-6
-slice-aggregate-day-in-6 c = search needs
-
-slice-aggregate-day-in-7 : tie.Need-slice-aggregate-day-in-7
-slice-aggregate-day-in-7 c = search needs
-
-array-borrow-prefix-figures : tie.Need-array-borrow-prefix-figures
-array-borrow-prefix-figures c = search needs
-
-slice-aggregate-day-in-8 : tie.Need-slice-aggregate-day-in-8
-slice-aggregate-day-in-8 c = sym (length-take-le _ _ (search needs))
-
-day-in-requires : tie.Need-day-in-requires
-day-in-requires c κs =
+add-refused-2 : tie.Need-add-refused-2
+add-refused-2 c =
     let s = c .before .before .before .before .before .before .before .before .before .before .before in
-    (s .pre .0, (s .pre .1, ((length-take-le _ _ (search needs), refl, length-take-le _ _ (search needs)), (refl, refl, refl, refl, refl))))
+    let few = stopped-few (s .args .text .now) (s .args .from .next) (s .args .count) (s .args .k) _ _ _ (c .before .before .before .before .before .before .read-accounts .ensures) _ (c .before .before .lines .given .1) in
+    let l = s .pre .0 .1 in
+    let m = s .pre .1 .1 in
+    search needs
+
+refused-requires : tie.Need-refused-requires
+refused-requires c κs = search needs
+
+enum-known-lines-2 : tie.Need-enum-known-lines-2
+enum-known-lines-2 c = search needs
+
+slice-aggregate-sized-turn : tie.Need-slice-aggregate-sized-turn
+slice-aggregate-sized-turn c = search needs
+
+slice-aggregate-sized-turn-2 : tie.Need-slice-aggregate-sized-turn-2
+slice-aggregate-sized-turn-2 c = search needs
+
+sized-turn-requires : tie.Need-sized-turn-requires
+sized-turn-requires c κs =
+    let read = c .before .before .before .before .before .before .before .before .read-accounts in
+    let s = c .before .before .before .before .before .before .before .before .before .before .before .before .before in
+    let (least, most, members, scenario, scenarios) = s .pre .1 in
+    ((most, members, scenarios, omega (arith, s .pre .0, s .good .0)), (read .kept .1 .1 .1 .1 .0, npvs-fit (s .args .count) (s .args .k) _ most scenarios (read .kept .1 .1 .1 .1 .1 .0)))
 
 same-length : tie.Need-same-length
 same-length c = search needs
 
 returns : tie.Need-returns
-returns c = search needs
+returns c =
+    let read = c .before .before .before .before .before .before .before .before .before .before .read-accounts in
+    let stopped = c .before .before .before .before .before .before .lines .given .1 in
+    let a = c .before .before .before .before .before .before .before .before .before .before .before .before .before .before .before .args in
+    let r = c .before .before .refused in
+    let due = stopped-due (a .text .now) (a .from .next) (a .count) (a .k) _ _ _ (read .ensures) _ stopped in
+    ((λ g h. ended (r .ensures .0) (same-put (due g _ _ (a .number) (a .from .line) h) (r .ensures .1))), over-stands _ _ _ (r .ensures .0))
+
+same-length-2 : tie.Need-same-length-2
+same-length-2 c = search needs
+
+returns-2 : tie.Need-returns-2
+returns-2 c =
+    let read = c .before .before .before .before .before .before .before .before .before .before .before .read-accounts in
+    let all = c .before .before .before .before .before .before .before .lines2 .given .1 in
+    let s = c .before .before .before .before .before .before .before .before .before .before .before .before .before .before .before .before in
+    let a = s .args in
+    let t = c .before .before .sized-turn in
+    let inside = read-inside (a .text .now) (a .from .next) (a .count) (a .k) _ _ _ (read .ensures) _ all in
+    let due = read-due (a .text .now) (a .from .next) (a .count) (a .k) _ _ _ (read .ensures) _ all in (
+      (λ g h. same-due (due g _ _ (a .number) (a .from .line) h) (t .ensures .0 g (a .text .now) h)),
+      stands-at _ _ _ _ _ (t .ensures .1 .0) (t .ensures .1 .1) (omega (arith, inside)) (inside .1) (omega (arith, inside, s .pre .0)),
+    )
 
 pub take-day-spec : {M : Type 1} → statement M
 take-day-spec =
     tie.close
     (tie.spec
-    add-width
-    mul-room
-    array-borrow-prefix-row
-    slice-aggregate-day-in
-    slice-aggregate-day-in-2
-    slice-aggregate-day-in-3
-    slice-aggregate-day-in-4
-    slice-aggregate-day-in-5
-    slice-aggregate-day-in-6
-    slice-aggregate-day-in-7
-    array-borrow-prefix-figures
-    slice-aggregate-day-in-8
-    day-in-requires
+    slice-aggregate-read-accounts
+    slice-aggregate-read-accounts-2
+    read-accounts-requires
+    enum-known-lines
+    add-refused
+    add-refused-2
+    refused-requires
+    enum-known-lines-2
+    slice-aggregate-sized-turn
+    slice-aggregate-sized-turn-2
+    sized-turn-requires
     same-length
-    returns)
+    returns
+    same-length-2
+    returns-2)

@@ -11,7 +11,7 @@ use Rattle.numbers.specs.Lists.{any}
 use Rattle.methodology.specs.Refusals.{nOutside, kOutside}
 use Rattle.methodology.specs.Text.{bytes}
 use Rattle.methodology.proofs.Passed.{inside}
-use Rattle.month.proofs.Turns.{period-bad, period-outside, period-good, line-after}
+use Rattle.month.proofs.LinesDue.{period-bad, period-outside, period-good, line-after}
 use Rattle.month.proofs.report.Statement.{statement}
 use Rattle.month.proofs.report.Tie as tie
 

@@ -15,7 +15,7 @@ use Rattle.month.proofs.days.+days.{statement}
 use Rattle.month.proofs.days.+days.Tie.{close}
 
 abbrev μ : Measures 2 kinds.ps ℕ
-μ κs a = length (a .0 .now) - a .1 .0
+μ κs a = length (a .0 .now) - a .1 .0 .next
 
 -- a call at t bytes from the end: what it may take for granted, and what the calls in it ask and tell
 module _ (t : ℕ) where
@@ -32,19 +32,20 @@ module _ (t : ℕ) where
   same-length c = search needs
 
   returns : lts.Need-returns claims here own.Post
-  returns c = λ g h. turn-over (c .before .before .before .turn-at .ensures .0 g h) (c .if1 .taken)
+  returns c = λ g h. turn-over (c .before .before .before .before .turn-at .ensures .0 g h) (c .if1 .taken)
 
   days-requires : lts.Need-days-requires claims here own.Post
   days-requires c κs =
+      let t = c .before .before .before .before .before .turn-at in
       let s = c .before .before .before .before .before .before .before .before .before in
-      let (further, inside, line) = on-stands _ _ _ (c .before .before .before .before .before .turn-at .ensures .1) (c .before .before .if1 .left) in
+      let (further, inside, line) = on-stands _ _ _ (t .ensures .1) (c .before .if1 .left) in
       (omega (arith, s .pre .0, s .pre .1 .0), ((inside, line), s .pre .1 .1))
 
   same-length-2 : lts.Need-same-length-2 claims here own.Post
-  same-length-2 c = c .before .before .days .kept .1 .1 .1 .1 .1 .1 .0 ∙ c .before .before .before .before .before .before .before .before .turn-at .kept .1 .1 .1 .1 .1 .1 .0
+  same-length-2 c = c .before .before .days .kept .1 .1 .1 .1 .0 ∙ c .before .before .before .before .before .before .before .before .turn-at .kept .1 .1 .1 .1 .0
 
   returns-2 : lts.Need-returns-2 claims here own.Post
-  returns-2 c = λ g h. turn-on (c .before .before .before .before .before .before .before .before .turn-at .ensures .0 g h) (c .before .before .before .before .before .if1 .left) (c .before .before .days .ensures)
+  returns-2 c = λ g h. turn-on (c .before .before .before .before .before .before .before .before .turn-at .ensures .0 g h) (c .before .before .before .before .if1 .left) (c .before .before .days .ensures)
 
 pub +days-spec : {M : Type 1} → statement M
 +days-spec =

@@ -1,11 +1,15 @@
 -- `end_at` meets its contract: a byte after the end line is bad, and without one the closing call is made.
-use borrow.Author.Needs.{needs}
 use mathlib.Core.Path.{sym}
-use native.Mathlib.Omega.{arith}
+use Prim.Native.Nat.{_+_}
 use lib.Seq.{length-take-le}
-use Rattle.month.proofs.Turns.{bytes-after, closing-due}
+use Rattle.day.proofs.Steps.{same-put}
+use Rattle.month.proofs.LinesDue.{bytes-after, closing-due}
+use borrow.Author.Needs.{needs}
 use Rattle.month.proofs.days.end_at.Statement.{statement}
 use Rattle.month.proofs.days.end_at.Tie as tie
+
+add-if1 : tie.Need-add-if1
+add-if1 c = search needs
 
 add-put-refused : tie.Need-add-put-refused
 add-put-refused c = search needs
@@ -17,7 +21,9 @@ same-length : tie.Need-same-length
 same-length c = search needs
 
 returns : tie.Need-returns
-returns c = λ g k h. let a = c .before .before .before .before .before .before .before .args in rw (bytes-after (a .text .now) (a .p) (a .line) g (omega (arith, c .before .before .before .before .if1 .taken, c .before .before .before .before .before .before .before .pre .0))) (c .before .before .put-refused .ensures)
+returns c = λ g k h.
+    let a = c .before .before .before .before .before .before .before .before .before .args in
+    same-put (bytes-after (a .text .now) (a .from .next + 4) (a .from .line) g (c .before .before .before .before .before .if1 .taken)) (c .before .before .put-refused .ensures)
 
 mul-room : tie.Need-mul-room
 mul-room c = search needs
@@ -35,12 +41,15 @@ same-length-2 : tie.Need-same-length-2
 same-length-2 c = search needs
 
 returns-2 : tie.Need-returns-2
-returns-2 c = λ g k h. let a = c .before .before .before .before .before .before .before .before .before .args in rw (closing-due (a .text .now) (a .p) (a .line) g (omega (arith, c .before .before .before .before .before .before .if1 .left))) (c .before .before .before .close .ensures g k h)
+returns-2 c = λ g k h.
+    let a = c .before .before .before .before .before .before .before .before .before .before .args in
+    same-put (closing-due (a .text .now) (a .from .next + 4) (a .from .line) g (c .before .before .before .before .before .before .if1 .left)) (c .before .before .before .close .ensures g k h)
 
 pub end-at-spec : {M : Type 1} → statement M
 end-at-spec =
     tie.close
     (tie.spec
+    add-if1
     add-put-refused
     put-refused-requires
     same-length

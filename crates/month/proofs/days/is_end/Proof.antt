@@ -2,7 +2,7 @@
 use borrow.Author.Needs.{needs}
 use mathlib.Core.Path.{_∙_}
 use Rattle.methodology.specs.Text.{bytes}
-use Rattle.month.proofs.Turns.{no-end, may-end}
+use Rattle.month.proofs.LinesDue.{no-end, may-end}
 use Rattle.month.proofs.days.is_end.Statement.{statement}
 use Rattle.month.proofs.days.is_end.Tie as tie
 

@@ -2,50 +2,80 @@
 use mathlib.Core.Path.{_≡_, refl, sym, _∙_}
 use mathlib.Core.Bool.{false}
 use mathlib.Core.List.{List}
-use Prim.Native.Nat.{ℕ}
+use Prim.Native.Nat.{ℕ, _+_}
 use native.Mathlib.Omega.{arith}
-use lib.ListN.{getD}
+use lib.ListN.{getD, drop}
 use Rattle.numbers.specs.Lists.{any}
 use Rattle.methodology.specs.Refusals.{countOutside}
-use Rattle.methodology.specs.Text.{bytes}
+use Rattle.methodology.specs.Lines.{indexOf, isEnd, lineRead}
+use Rattle.methodology.specs.Text.{LF, bytes, numbersAfter}
 use Rattle.methodology.proofs.Passed.{inside}
+use Rattle.fields.specs.Fields.{RowIs}
 use Rattle.day.specs.Turns.{ended}
-use Rattle.day.proofs.Steps.{same-due, over-stands, stands-before}
-use Rattle.month.proofs.Turns.{day-bad, day-outside, day-good, line-after, end-inside, end-due}
+use Rattle.day.proofs.Steps.{same-due, same-put, over-stands, stands-before}
+use Rattle.month.proofs.LinesDue.{day-bad, day-outside, day-good, line-after, end-inside, end-due}
 use borrow.Author.Needs.{needs}
 use Rattle.month.proofs.days.turn_at.Statement.{statement}
 use Rattle.month.proofs.days.turn_at.Tie as tie
 
--- the numbers of the line, where it was read
+-- where the line was read as a day line
 module _ (l : tie.After-numbers-at) where
+  abbrev start : tie.Start
+  start = l .before .before .before .before .before .before .before
+
+  abbrev text : List ℕ
+  text = start .args .text .now
+
+  abbrev p : ℕ
+  p = start .args .from .next
+
+  abbrev line : ℕ
+  line = start .args .from .line
+
   abbrev row : List ℕ
   row = l .numbers-at .last .1 .1 .1 .0
+
+  abbrev number : ℕ
+  number = getD row 0 0
 
   abbrev count : ℕ
   count = getD row 1 0
 
--- the count is within its limits
-within : (c : tie.Else3) → countOutside (count (c .before .before .before .before)) ≡ false
-within c = sym (c .before .count-outside .ensures) ∙ c .if3 .left
+  found : RowIs (lineRead (numbersAfter (bytes "day") 2) (drop p text)) (p + indexOf LF (drop p text) + 1) row (l .numbers-at .result)
+  unfolding bytes
+  found = l .numbers-at .ensures .0
+
+  no-end : isEnd (drop p text) ≡ false
+  no-end = sym (l .before .before .before .before .is-end .ensures) ∙ l .before .before .before .if1 .left
+
+-- where its count is within its limits
+module _ (c : tie.Else3) where
+  abbrev read : tie.After-numbers-at
+  read = c .before .before .before .before
+
+  within : countOutside (count read) ≡ false
+  within = sym (c .before .count-outside .ensures) ∙ c .if3 .left
 
 is-end-requires : tie.Need-is-end-requires
 is-end-requires c κs = search needs
 
-add-end-at : tie.Need-add-end-at
-add-end-at c = search needs
-
 end-at-requires : tie.Need-end-at-requires
 end-at-requires c κs =
     let s = c .before .before .before .before .before in
-    (end-inside (s .args .text .now) (s .args .p) (sym (c .before .before .is-end .ensures) ∙ c .before .if1 .taken), omega (arith, s .pre .0), s .pre .1 .0)
+    (end-inside (s .args .text .now) (s .args .from .next) (sym (c .before .before .is-end .ensures) ∙ c .before .if1 .taken), s .pre .0 .1, s .pre .1 .0)
+
+ended-requires : tie.Need-ended-requires
+ended-requires c κs = search needs
 
 same-length : tie.Need-same-length
 same-length c = search needs
 
 returns : tie.Need-returns
 returns c =
-    let s = c .before .before .before .before .before .before .before .before in
-    ((λ g h. ended refl (rw (end-due (s .args .text .now) (s .args .p) (sym (c .before .before .before .before .before .is-end .ensures) ∙ c .before .before .before .before .if1 .taken) (s .args .line) g) (c .before .before .end-at .ensures g _ h))), over-stands _ _ _ refl)
+    let a = c .before .before .before .before .before .before .before .before .before .args in
+    let is-end = sym (c .before .before .before .before .before .before .is-end .ensures) ∙ c .before .before .before .before .before .if1 .taken in
+    let due = end-due (a .text .now) (a .from .next) is-end (a .from .line) in
+    rw (c .ended .ensures) ((λ g h. ended refl (same-put (due g) (c .before .before .before .end-at .ensures g _ h))), over-stands _ _ _ refl)
 
 slice-aggregate-numbers-at : tie.Need-slice-aggregate-numbers-at
 slice-aggregate-numbers-at c = search needs
@@ -57,18 +87,18 @@ numbers-at-requires : tie.Need-numbers-at-requires
 unfolding any
 numbers-at-requires c κs = (c .before .before .before .before .before .before .pre .0 .0, (refl, (omega arith, omega arith)))
 
-put-refused-requires : tie.Need-put-refused-requires
-put-refused-requires c κs = search needs
+refused-requires : tie.Need-refused-requires
+refused-requires c κs = search needs
 
 same-length-2 : tie.Need-same-length-2
 same-length-2 c = search needs
 
 returns-2 : tie.Need-returns-2
-unfolding bytes
 returns-2 c =
-    let s = c .before .before .before .before .before .before .before .before .before .before .before .before .before in
     let l = c .before .before .before .before .before .before in
-    ((λ g h. ended refl (rw (day-bad (s .args .text .now) (s .args .p) (s .args .line) g (sym (c .before .before .before .before .before .before .before .before .before .before .is-end .ensures) ∙ c .before .before .before .before .before .before .before .before .before .if1 .left) (row l) _ (l .numbers-at .ensures .0) (c .before .before .before .before .if2 .taken)) (c .before .before .put-refused .ensures))), over-stands _ _ _ refl)
+    let r = c .before .before .refused in
+    let bad = c .before .before .before .before .if2 .taken in
+    ((λ g h. ended (r .ensures .0) (same-put (day-bad (text l) (p l) (line l) g (no-end l) (row l) _ (found l) bad) (r .ensures .1))), over-stands _ _ _ (r .ensures .0))
 
 array-read-number : tie.Need-array-read-number
 array-read-number c = search needs
@@ -79,25 +109,27 @@ array-read-count c = search needs
 count-outside-requires : tie.Need-count-outside-requires
 count-outside-requires c κs = search needs
 
-put-refused-requires-2 : tie.Need-put-refused-requires-2
-put-refused-requires-2 c κs = search needs
+refused-requires-2 : tie.Need-refused-requires-2
+refused-requires-2 c κs = search needs
 
 same-length-3 : tie.Need-same-length-3
 same-length-3 c = search needs
 
 returns-3 : tie.Need-returns-3
-unfolding bytes
 returns-3 c =
-    let s = c .before .before .before .before .before .before .before .before .before .before .before .before .before .before .before in
     let l = c .before .before .before .before .before .before .before .before in
+    let r = c .before .before .refused2 in
     let beyond = sym (c .before .before .before .before .before .count-outside .ensures) ∙ c .before .before .before .before .if3 .taken in
-    ((λ g h. ended refl (rw (day-outside (s .args .text .now) (s .args .p) (s .args .line) g (sym (c .before .before .before .before .before .before .before .before .before .before .before .before .is-end .ensures) ∙ c .before .before .before .before .before .before .before .before .before .before .before .if1 .left) (row l) _ (l .numbers-at .ensures .0) (c .before .before .before .before .before .before .if2 .left) (getD (row l) 0 0) (count l) refl refl beyond) (c .before .before .put-refused2 .ensures))), over-stands _ _ _ refl)
+    let good = c .before .before .before .before .before .before .if2 .left in (
+      (λ g h. ended (r .ensures .0) (same-put (day-outside (text l) (p l) (line l) g (no-end l) (row l) _ (found l) good (number l) (count l) refl refl beyond) (r .ensures .1))),
+      over-stands _ _ _ (r .ensures .0),
+    )
 
 take-day-requires : tie.Need-take-day-requires
 take-day-requires c κs =
-    let s = c .before .before .before .before .before .before .before .before .before .before .before .before in
-    let l = c .before .before .before .before .before in
-    let after = line-after (s .args .text .now) (s .args .p) _ (row l) _ (l .numbers-at .ensures .0) (c .before .before .before .if2 .left) in
+    let l = read (c .before) in
+    let s = start l in
+    let after = line-after (text l) (p l) _ (row l) _ (found l) (c .before .before .before .if2 .left) in
     let few = inside _ _ _ (within (c .before)) in
     ((l .numbers-at .ensures .1 .0, omega (arith, s .pre .0)), (few .0, few .1, s .pre .1 .0, s .pre .1 .1, s .pre .1 .2))
 
@@ -105,12 +137,13 @@ same-length-4 : tie.Need-same-length-4
 same-length-4 c = search needs
 
 returns-4 : tie.Need-returns-4
-unfolding bytes
 returns-4 c =
-    let s = c .before .before .before .before .before .before .before .before .before .before .before .before .before .before .before in
-    let l = c .before .before .before .before .before .before .before .before in (
-      (λ g h. same-due (day-good (s .args .text .now) (s .args .p) (s .args .line) g (sym (c .before .before .before .before .before .before .before .before .before .before .before .before .is-end .ensures) ∙ c .before .before .before .before .before .before .before .before .before .before .before .if1 .left) (row l) _ (l .numbers-at .ensures .0) (c .before .before .before .before .before .before .if2 .left) (getD (row l) 0 0) (count l) refl refl (within (c .before .before .before .before))) (c .before .before .take-day .ensures .0 g h)),
-      stands-before _ _ _ _ (line-after (s .args .text .now) (s .args .p) _ (row l) _ (l .numbers-at .ensures .0) (c .before .before .before .before .before .before .if2 .left)) (c .before .before .take-day .ensures .1),
+    let e = c .before .before .before .before in
+    let l = read e in
+    let good = e .before .before .if2 .left in
+    let taken = c .before .before .take-day .ensures in (
+      (λ g h. same-due (day-good (text l) (p l) (line l) g (no-end l) (row l) _ (found l) good (number l) (count l) refl refl (within e)) (taken .0 g h)),
+      stands-before _ _ _ _ (line-after (text l) (p l) _ (row l) _ (found l) good) (taken .1),
     )
 
 pub turn-at-spec : {M : Type 1} → statement M
@@ -118,20 +151,20 @@ turn-at-spec =
     tie.close
     (tie.spec
     is-end-requires
-    add-end-at
     end-at-requires
+    ended-requires
     same-length
     returns
     slice-aggregate-numbers-at
     slice-aggregate-numbers-at-2
     numbers-at-requires
-    put-refused-requires
+    refused-requires
     same-length-2
     returns-2
     array-read-number
     array-read-count
     count-outside-requires
-    put-refused-requires-2
+    refused-requires-2
     same-length-3
     returns-3
     take-day-requires

@@ -1,15 +1,58 @@
 -- `from_members` meets its contract: the member lines are read, or the first bad one ends the report; then the opening call is made.
-use mathlib.Core.Path.{sym, _∙_}
+use mathlib.Core.Path.{_≡_, sym, _∙_}
+use mathlib.Core.List.{List}
+use Prim.Native.Nat.{ℕ, _+_, _≤_}
 use native.Mathlib.Omega.{arith}
 use native.Mathlib.Nat.{mul-zero}
+use lib.ListN.{length, take}
 use lib.Seq.{length-take-le}
+use Rattle.period.specs.Reading.{brought}
+use Rattle.period.specs.Calls.{freshPeriod, OpeningMeets}
 use Rattle.answers.specs.Said.{widthSaid}
 use Rattle.answers.proofs.Outcomes.{opening-outcome, opening-line}
 use Rattle.day.proofs.Steps.{same-put}
+use Rattle.month.specs.MemberLines.{membersDue, openingDue}
 use Rattle.month.proofs.Openings.{members-stopped, members-read, from-fresh, opening-ends, opening-goes-on}
 use borrow.Author.Needs.{needs}
 use Rattle.month.proofs.members.from_members.Statement.{statement}
 use Rattle.month.proofs.members.from_members.Tie as tie
+
+abbrev start : tie.After-read-members → tie.Start
+start c = c .before .before .before .before
+
+-- where all member lines are read
+module _ (c : tie.After-lines2) where
+  abbrev read : tie.After-read-members
+  read = c .before .before .before
+
+  abbrev text : List ℕ
+  text = start read .args .text .now
+
+  abbrev p : ℕ
+  p = start read .args .p
+
+  abbrev n : ℕ
+  n = start read .args .n
+
+  abbrev k : ℕ
+  k = start read .args .k
+
+  abbrev next : ℕ
+  next = c .lines2 .given .0 .0
+
+  abbrev groups : List ℕ
+  groups = read .read-members .last .1 .1 .1 .0
+
+  told : (p + n ≤ next) × (next ≤ length text) × ((k : ℕ) → membersDue text p n k ≡ openingDue text next (brought n k (take n groups)))
+  told = members-read text p n groups _ (read .read-members .ensures) next (c .lines2 .given .1)
+
+-- where the opening call was made
+module _ (c : tie.After-opening) where
+  abbrev lines : tie.After-lines2
+  lines = c .before .before .before .before
+
+  opened : OpeningMeets freshPeriod (brought (n lines) (k lines) (take (n lines) (groups lines))) (c .opening .result)
+  opened = from-fresh (c .before .before .fresh .ensures) (c .opening .ensures)
 
 slice-aggregate-read-members : tie.Need-slice-aggregate-read-members
 slice-aggregate-read-members c = search needs
@@ -21,7 +64,10 @@ enum-known-lines : tie.Need-enum-known-lines
 enum-known-lines c = search needs
 
 add-put-refused : tie.Need-add-put-refused
-add-put-refused c = let few = members-stopped _ _ _ _ _ (c .before .before .before .before .before .read-members .ensures) _ (c .before .before .lines .given .1) .0 in let h = c .before .before .before .before .before .before .before .before .before .pre .1 .1 in search needs
+add-put-refused c =
+    let few = members-stopped _ _ _ _ _ (c .before .before .before .before .before .read-members .ensures) _ (c .before .before .lines .given .1) .0 in
+    let h = c .before .before .before .before .before .before .before .before .before .pre .1 .1 in
+    search needs
 
 put-refused-requires : tie.Need-put-refused-requires
 put-refused-requires c κs = search needs
@@ -30,7 +76,10 @@ same-length : tie.Need-same-length
 same-length c = search needs
 
 returns : tie.Need-returns
-returns c = rw (members-stopped _ _ _ _ _ (c .before .before .before .before .before .before .before .before .read-members .ensures) _ (c .before .before .before .before .before .lines .given .1) .1 (c .before .before .before .before .before .before .before .before .before .before .before .before .args .k)) (c .before .before .put-refused .ensures)
+returns c =
+    let read = c .before .before .before .before .before .before .before .before in
+    let due = members-stopped _ _ _ _ _ (read .read-members .ensures) _ (c .before .before .before .before .before .lines .given .1) .1 in
+    same-put (due (start read .args .k)) (c .before .before .put-refused .ensures)
 
 enum-known-lines-2 : tie.Need-enum-known-lines-2
 enum-known-lines-2 c = search needs
@@ -52,8 +101,9 @@ slice-aggregate-say c = search needs
 
 say-requires : tie.Need-say-requires
 say-requires c κs =
-    let o = opening-outcome (c .before .before .before .opening .ensures) in
-    ((omega arith, omega (arith, mul-zero (widthSaid (c .before .before .before .opening .result .outcome)))), omega (arith, opening-line 1 o))
+    let called = c .before .before .before .opening in
+    let o = opening-outcome (called .ensures) in
+    ((omega arith, omega (arith, mul-zero (widthSaid (called .result .outcome)))), omega (arith, opening-line 1 o))
 
 is-over-requires : tie.Need-is-over-requires
 is-over-requires c κs = search needs
@@ -63,27 +113,29 @@ same-length-2 c = search needs
 
 returns-2 : tie.Need-returns-2
 returns-2 c =
-    let s = c .before .before .before .before .before .before .before .before .before .before .before .before .before .before .before .before .before .before .before in
-    let (further, inside, due) = members-read (s .args .text .now) (s .args .p) (s .args .n) _ _ (c .before .before .before .before .before .before .before .before .before .before .before .before .before .before .before .read-members .ensures) _ (c .before .before .before .before .before .before .before .before .before .before .before .before .lines2 .given .1) in
-    same-put (due (s .args .k)) (opening-ends (s .args .text .now) (s .args .n) (s .args .k) (c .before .before .before .before .before .before .before .before .before .before .before .before .lines2 .given .0 .0) _ _ (from-fresh (c .before .before .before .before .before .before .before .before .before .before .fresh .ensures) (c .before .before .before .before .before .before .before .before .opening .ensures)) _ _ _ (c .before .before .before .before .say .ensures) (sym (c .before .is-over .ensures) ∙ c .if1 .taken))
+    let a = c .before .before .before .before .before .before .before .before in
+    let l = lines a in
+    let over = sym (c .before .is-over .ensures) ∙ c .if1 .taken in
+    same-put (told l .2 (k l)) (opening-ends (text l) (n l) (k l) (next l) _ _ (opened a) _ _ _ (c .before .before .before .before .say .ensures) over)
 
-add-days : tie.Need-add-days
-add-days c = let h = c .before .before .before .before .before .before .before .before .before .before .before .before .before .before .before .before .before .before .before .pre .1 .1 in search needs
+add-t26 : tie.Need-add-t26
+add-t26 c = let h = c .before .before .before .before .before .before .before .before .before .before .before .before .before .before .before .before .before .before .before .pre .1 .1 in search needs
 
 days-requires : tie.Need-days-requires
 days-requires c κs =
-    let s = c .before .before .before .before .before .before .before .before .before .before .before .before .before .before .before .before .before .before .before .before in
-    let (further, inside, due) = members-read (s .args .text .now) (s .args .p) (s .args .n) _ _ (c .before .before .before .before .before .before .before .before .before .before .before .before .before .before .before .before .read-members .ensures) _ (c .before .before .before .before .before .before .before .before .before .before .before .before .before .lines2 .given .1) in
-    ((inside, omega (arith, s .pre .0 .0)), (s .pre .1 .1, s .pre .1 .2, s .pre .1 .3))
+    let l = lines (c .before .before .before .before .before .before .before .before .before) in
+    let s = start (read l) in
+    ((told l .1, omega (arith, told l, s .pre .0 .0)), (s .pre .1 .1, s .pre .1 .2, s .pre .1 .3))
 
 same-length-3 : tie.Need-same-length-3
 same-length-3 c = search needs
 
 returns-3 : tie.Need-returns-3
 returns-3 c =
-    let s = c .before .before .before .before .before .before .before .before .before .before .before .before .before .before .before .before .before .before .before .before .before .before .before in
-    let (further, inside, due) = members-read (s .args .text .now) (s .args .p) (s .args .n) _ _ (c .before .before .before .before .before .before .before .before .before .before .before .before .before .before .before .before .before .before .before .read-members .ensures) _ (c .before .before .before .before .before .before .before .before .before .before .before .before .before .before .before .before .lines2 .given .1) in
-    same-put (due (s .args .k)) (opening-goes-on (s .args .text .now) (s .args .n) (s .args .k) (c .before .before .before .before .before .before .before .before .before .before .before .before .before .before .before .before .lines2 .given .0 .0) _ _ (from-fresh (c .before .before .before .before .before .before .before .before .before .before .before .before .before .before .fresh .ensures) (c .before .before .before .before .before .before .before .before .before .before .before .before .opening .ensures)) _ _ _ (c .before .before .before .before .before .before .before .before .say .ensures) _ _ (sym (c .before .before .before .before .before .is-over .ensures) ∙ c .before .before .before .before .if1 .left) (c .before .before .days .ensures))
+    let a = c .before .before .before .before .before .before .before .before .before .before .before .before in
+    let l = lines a in
+    let on = sym (c .before .before .before .before .before .is-over .ensures) ∙ c .before .before .before .before .if1 .left in
+    same-put (told l .2 (k l)) (opening-goes-on (text l) (n l) (k l) (next l) _ _ (opened a) _ _ _ (c .before .before .before .before .before .before .before .before .say .ensures) _ _ on (c .before .before .days .ensures))
 
 pub from-members-spec : {M : Type 1} → statement M
 from-members-spec =
@@ -106,7 +158,7 @@ from-members-spec =
     is-over-requires
     same-length-2
     returns-2
-    add-days
+    add-t26
     days-requires
     same-length-3
     returns-3)

@@ -1,28 +1,11 @@
--- An account's row: where its numbers are not negative, and its NPVs, copied into a slice one after another.
--- The first i of the slice are the first i NPVs.
+-- The NPVs of an account's row, copied into a slice one after another: the first i of the slice are the first i NPVs.
 use mathlib.Core.Path.{_≡_, sym, ap, _∙_}
-use mathlib.Core.Bool.{Bool, false}
 use mathlib.Core.List.{List, _∷_}
 use Prim.Native.Nat.{ℕ, zero, suc, _+_, _≤_, _<_}
 use native.Mathlib.Omega.{arith}
 use lib.IntN.{ℤ, pos}
 use lib.ListN.{length, getD, take, drop, set, length-drop, length-set}
 use lib.Seq.{take-all, take-suc, take-suc-set, getD-drop}
-use Rattle.numbers.proofs.Tests.{neither}
-use Rattle.lines.specs.Forms.{isNegative, signsWrong}
-
-abbrev below0 : List ℤ → ℕ → Bool
-below0 row i = isNegative (getD row i (pos 0))
-
-pub signs-right : (row : List ℤ) → signsWrong row ≡ false
-    → (below0 row 0 ≡ false) × (below0 row 1 ≡ false) × (below0 row 4 ≡ false) × (below0 row 5 ≡ false)
-signs-right row e =
-    let (h, k) = neither _ _ e in
-    let (m, n) = neither _ _ h in
-    let (p, q) = neither _ _ m in
-    (p, q, n, k)
-
--- ---- NPVs
 
 abbrev pub npvsOf : List ℤ → List ℤ
 npvsOf row = getD row 3 (pos 0) ∷ drop 6 row
@@ -32,16 +15,16 @@ npv-at row zero h = absurd (omega arith)
 npv-at row (suc i) h = let z : 6 + i ≡ suc i + 5 = omega arith in getD-drop 6 row i (pos 0) ∙ ap (λ (n : ℕ). getD row n (pos 0)) z
 
 -- the first i stand in the slice
-abbrev pub Stored : (row npvs : List ℤ) → (i : ℕ) → Type 0
-Stored row npvs i = (1 ≤ i) × (i ≤ length npvs) × (length row ≡ length npvs + 5) × (take i npvs ≡ take i (npvsOf row))
+abbrev pub NpvsStored : (row npvs : List ℤ) → (i : ℕ) → Type 0
+NpvsStored row npvs i = (1 ≤ i) × (i ≤ length npvs) × (length row ≡ length npvs + 5) × (take i npvs ≡ take i (npvsOf row))
 
-pub stored-first : (row npvs : List ℤ) → 1 ≤ length npvs → length row ≡ length npvs + 5 → Stored row (set npvs 0 (getD row 3 (pos 0))) 1
-stored-first row npvs h k =
+pub npvs-first : (row npvs : List ℤ) → 1 ≤ length npvs → length row ≡ length npvs + 5 → NpvsStored row (set npvs 0 (getD row 3 (pos 0))) 1
+npvs-first row npvs h k =
     let l = length-set npvs 0 (getD row 3 (pos 0)) in
     (omega arith, omega arith, omega arith, take-suc-set npvs 0 (getD row 3 (pos 0)) h)
 
-pub stored-more : (row npvs : List ℤ) (i : ℕ) → i < length npvs → Stored row npvs i → Stored row (set npvs i (getD row (i + 5) (pos 0))) (i + 1)
-stored-more row npvs i h s =
+pub npvs-more : (row npvs : List ℤ) (i : ℕ) → i < length npvs → NpvsStored row npvs i → NpvsStored row (set npvs i (getD row (i + 5) (pos 0))) (i + 1)
+npvs-more row npvs i h s =
     let v = getD row (i + 5) (pos 0) in
     let l = length-set npvs i v in
     let (a, b, e, t) = s in
@@ -53,8 +36,8 @@ stored-more row npvs i h s =
       rw next (take-suc-set npvs i v h ∙ rw t (sym (take-suc (npvsOf row) i (pos 0) long ∙ rw (npv-at row i a)))),
     )
 
-pub stored-all : (row npvs : List ℤ) (i : ℕ) → length npvs ≤ i → Stored row npvs i → npvs ≡ npvsOf row
-stored-all row npvs i h s =
+pub npvs-all : (row npvs : List ℤ) (i : ℕ) → length npvs ≤ i → NpvsStored row npvs i → npvs ≡ npvsOf row
+npvs-all row npvs i h s =
     let (a, b, e, t) = s in
     let long : length (npvsOf row) ≤ i = omega (arith, length-drop 6 row, e) in
     sym (take-all i npvs h) ∙ t ∙ take-all i (npvsOf row) long

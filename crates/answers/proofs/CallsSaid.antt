@@ -18,9 +18,9 @@ use Rattle.period.specs.Reading.{brought, answerOf}
 use Rattle.period.specs.Calls.{freshPeriod, OpeningMeets, DayMeets, ClosingMeets}
 use Rattle.period.specs.Follows.{Follows}
 use Rattle.period.proofs.Simulation.{starts, opening-follows, day-follows, closing-follows}
-use Rattle.answers.specs.Held.{Held}
+use Rattle.answers.specs.InStep.{InStep}
 use Rattle.answers.specs.Said.{said, isOver}
-use Rattle.answers.proofs.Rows.{is-clear, is-row, is-row-at, step-clear}
+use Rattle.answers.proofs.RefusalRows.{is-clear, is-row, is-row-at, step-clear}
 use Rattle.answers.proofs.Outcomes.{OfOpening, opened, unopened, opening-outcome, OfDay, sized, unsized, unsized-at, day-outcome, OfClosing, closed, unclosed, closing-outcome}
 
 -- ---- the opening
@@ -43,11 +43,11 @@ module _ (n k : ℕ) (groups : List ℕ) (r : Reply) (m : OpeningMeets freshPeri
       by o e opened = rw (is-clear (refusal start first) _ _ (first-told e) .0)
       by o e (unopened row) = rw (is-row (refusal start first) _ _ (first-told e)) (sym (append-nil (refusedLine row 1)))
 
-  pub opening-held : isOver (r .outcome) ≡ false → Held (step start first) (r .period) n k
+  pub opening-in-step : isOver (r .outcome) ≡ false → InStep (step start first) (r .period) n k
   unfolding accept isOver
-  opening-held = by (r .outcome) refl (opening-outcome m)
+  opening-in-step = by (r .outcome) refl (opening-outcome m)
     where
-      by : (o : Outcome) → r .outcome ≡ o → OfOpening o → isOver o ≡ false → Held (step start first) (r .period) n k
+      by : (o : Outcome) → r .outcome ≡ o → OfOpening o → isOver o ≡ false → InStep (step start first) (r .period) n k
       by o e opened t =
           let h : step start first .held ≡ brought n k groups = ap (λ (g : Register). g .held) (step-clear start first (is-clear (refusal start first) _ _ (first-told e) .0)) in
           record { follows = opening-follows starts m .0; members = ap (λ (o : Opening). o .n) h; scenarios = ap (λ (o : Opening). o .k) h }
@@ -59,7 +59,7 @@ day-kept : (g : Register) (d : DayInput) (room : ℕ) → accept g (Call.day d r
 unfolding accept
 day-kept g d room = refl
 
-module _ (n k : ℕ) (g : Register) (period : Period) (h : Held g period n k) (d : DayInput) (line : ℕ)
+module _ (n k : ℕ) (g : Register) (period : Period) (h : InStep g period n k) (d : DayInput) (line : ℕ)
     (before : List ℕ) (r : Reply) (figures : List ℕ) (m : DayMeets period d before r figures) (room : length before ≡ 5 * n) where
   abbrev call : Call
   call = Call.day d (5 * g .held .n)
@@ -79,8 +79,8 @@ module _ (n k : ℕ) (g : Register) (period : Period) (h : Held g period n k) (d
     held-is : step g call .held ≡ g .held
     held-is = ap (λ (x : Register). x .held) (step-clear g call c) ∙ day-kept g d (5 * g .held .n)
 
-    still-held : Held (step g call) (r .period) n k
-    still-held = record { follows = follows .0; members = ap (λ (o : Opening). o .n) held-is ∙ h .members; scenarios = ap (λ (o : Opening). o .k) held-is ∙ h .scenarios }
+    still-in-step : InStep (step g call) (r .period) n k
+    still-in-step = record { follows = follows .0; members = ap (λ (o : Opening). o .n) held-is ∙ h .members; scenarios = ap (λ (o : Opening). o .k) held-is ∙ h .scenarios }
 
     written-is : figures ≡ written (step g call) call
     unfolding buffer
@@ -90,7 +90,7 @@ module _ (n k : ℕ) (g : Register) (period : Period) (h : Held g period n k) (d
         → dayLines (step g call) d (5 * g .held .n) ≡ printed (bytes "day") (d .terms .number ∷ total ∷ max ∷ []) ++ rows (bytes "daily") 5 n figures
     unfolding dayLines
     lines-are total max e =
-        rw (e, ← written-is) (ap (λ (x : ℕ). printed (bytes "day") (d .terms .number ∷ total ∷ max ∷ []) ++ rows (bytes "daily") 5 x figures) (still-held .members))
+        rw (e, ← written-is) (ap (λ (x : ℕ). printed (bytes "day") (d .terms .number ∷ total ∷ max ∷ []) ++ rows (bytes "daily") 5 x figures) (still-in-step .members))
 
   pub day-said : (rest : Expected → List ℕ) → followedBy (Text·sized (refusal g call) g d line) rest
       ≡ said (r .outcome) (d .terms .number) line n figures ++ cond (isOver (r .outcome)) [] (rest (day (step g call)))
@@ -105,12 +105,12 @@ module _ (n k : ℕ) (g : Register) (period : Period) (h : Held g period n k) (d
       by o e (unsized row) = rw (is-row (refusal g call) _ _ (told e)) (sym (append-nil (refusedLine row line)))
       by o e (unsized-at row index few) = rw (is-row-at (refusal g call) _ _ _ (told e)) (sym (append-nil (refusedLine row (line + 1 + index))))
 
-  pub day-held : isOver (r .outcome) ≡ false → Held (step g call) (r .period) n k
+  pub day-in-step : isOver (r .outcome) ≡ false → InStep (step g call) (r .period) n k
   unfolding isOver
-  day-held = by (r .outcome) refl (day-outcome m)
+  day-in-step = by (r .outcome) refl (day-outcome m)
     where
-      by : (o : Outcome) → r .outcome ≡ o → OfDay (length (d .headings)) o → isOver o ≡ false → Held (step g call) (r .period) n k
-      by o e (sized total max) t = still-held (is-clear (refusal g call) _ _ (told e) .0)
+      by : (o : Outcome) → r .outcome ≡ o → OfDay (length (d .headings)) o → isOver o ≡ false → InStep (step g call) (r .period) n k
+      by o e (sized total max) t = still-in-step (is-clear (refusal g call) _ _ (told e) .0)
       by o e (unsized row) t = absurd (true≢false t)
       by o e (unsized-at row index few) t = absurd (true≢false t)
 
@@ -120,7 +120,7 @@ closing-kept : (g : Register) (room : ℕ) → accept g (Call.closing room) .hel
 unfolding accept
 closing-kept g room = refl
 
-module _ (n k : ℕ) (g : Register) (period : Period) (h : Held g period n k) (line : ℕ)
+module _ (n k : ℕ) (g : Register) (period : Period) (h : InStep g period n k) (line : ℕ)
     (before : List ℕ) (r : Reply) (figures : List ℕ) (m : ClosingMeets period before r figures) (room : length before ≡ 3 * n) where
   abbrev last : Call
   last = Call.closing (3 * g .held .n)
