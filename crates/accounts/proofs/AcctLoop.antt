@@ -11,6 +11,7 @@ use lib.IntN.{ℤ, pos}
 use lib.ListN.{length, getD, drop}
 use Rattle.numbers.specs.Lists.{range}
 use Rattle.numbers.proofs.Lists.{table-length}
+use Rattle.methodology.specs.declared.DayTerms.{DayTerms}
 use Rattle.methodology.specs.Account.{DayInput, headingAt}
 use Rattle.methodology.specs.Register.{Register}
 use Rattle.methodology.specs.Text.{LF, split, AccountLine, accountOf, account, reportFrom}
@@ -48,10 +49,10 @@ pub record ReadSoFar (text : List ℕ) (p count k j q : ℕ) (columns : List ℕ
   pub far : p + j ≤ q
   pub near : q ≤ length text
   pub few : j ≤ count
-  pub due : (g : Register) (number at : ℕ) → g .held .k ≡ k → j < count
-      → accountsDue text p g number at count ≡ reportFrom (at + 1 + j) (split LF (drop q text)) (account g (dayRead number j k columns npvs) at count (q - p))
-  pub done : (g : Register) (number at : ℕ) → g .held .k ≡ k → j ≡ count
-      → accountsDue text p g number at count ≡ dayDue text q g (dayRead number j k columns npvs) at count
+  pub due : (g : Register) (terms : DayTerms) (at : ℕ) → g .held .k ≡ k → j < count
+      → accountsDue text p g terms at count ≡ reportFrom (at + 1 + j) (split LF (drop q text)) (account g (dayRead terms j k columns npvs) at count (q - p))
+  pub done : (g : Register) (terms : DayTerms) (at : ℕ) → g .held .k ≡ k → j ≡ count
+      → accountsDue text p g terms at count ≡ dayDue text q g (dayRead terms j k columns npvs) at count
 
 pub reading-none : (text : List ℕ) (p count k : ℕ) (columns : List ℕ) (npvs : List ℤ) → p ≤ length text → 1 ≤ count
     → ReadSoFar text p count k 0 p columns npvs
@@ -61,8 +62,8 @@ reading-none text p count k columns npvs h l =
       far = omega arith;
       near = h;
       few = omega arith;
-      due = λ g number at e m. let z : p - p ≡ 0 = omega arith in let y : at + 1 + 0 ≡ at + 1 = omega arith in rw (z, y, zero-mul (k + 1)) refl;
-      done = λ g number at e m. let no-way : ⊥ = omega arith in absurd no-way;
+      due = λ g terms at e m. let z : p - p ≡ 0 = omega arith in let y : at + 1 + 0 ≡ at + 1 = omega arith in rw (z, y, zero-mul (k + 1)) refl;
+      done = λ g terms at e m. let no-way : ⊥ = omega arith in absurd no-way;
     }
 
 module _ {text : List ℕ} {p count k j q : ℕ} {columns : List ℕ} {npvs : List ℤ} (b : ReadSoFar text p count k j q columns npvs) where
@@ -72,14 +73,14 @@ module _ {text : List ℕ} {p count k j q : ℕ} {columns : List ℕ} {npvs : Li
 
   pub reading-all : count ≤ j → AccountsMeet text p count k columns npvs (Read q)
   unfolding AccountsMeet
-  reading-all h = let all : j ≡ count = omega (arith, b .few) in (omega (arith, b .far), b .near, λ g number at e. rw all at (b .done g number at e all))
+  reading-all h = let all : j ≡ count = omega (arith, b .few) in (omega (arith, b .far), b .near, λ g terms at e. rw all at (b .done g terms at e all))
 
   -- a line was read, or not
   module _ (row : List ℤ) (r : ℕ) (i : AccountIs (lineRead (accountOf k) (drop q text)) (q + indexOf LF (drop q text) + 1) row r) (h : j < count) where
     pub reading-bad : r ≡ 0 → AccountsMeet text p count k columns npvs (Stopped j)
     unfolding AccountsMeet
     reading-bad z =
-        (h, λ g number at e. b .due g number at e h ∙ line-bad g _ at count (at + 1 + j) text p q (omega (arith, b .far)) (read-by g e ∙ account-zero _ _ row r i (omega arith) z))
+        (h, λ g terms at e. b .due g terms at e h ∙ line-bad g _ at count (at + 1 + j) text p q (omega (arith, b .far)) (read-by g e ∙ account-zero _ _ row r i (omega arith) z))
 
     module _ (z : r ≡ 0 → ⊥) where
       pub next-is : q + indexOf LF (drop q text) + 1 ≡ r
@@ -87,7 +88,7 @@ module _ {text : List ℕ} {p count k j q : ℕ} {columns : List ℕ} {npvs : Li
 
       pub reading-over : 65536 < r - p → AccountsMeet text p count k columns npvs (Stopped j)
       unfolding AccountsMeet
-      reading-over l = (h, λ g number at e. b .due g number at e h ∙ line-over g _ at count (at + 1 + j) text p q (omega (arith, b .far)) (omega (arith, next-is)))
+      reading-over l = (h, λ g terms at e. b .due g terms at e h ∙ line-over g _ at count (at + 1 + j) text p q (omega (arith, b .far)) (omega (arith, next-is)))
 
       module _ (columns′ : List ℕ) (npvs′ : List ℤ) (s : Stored j k row columns npvs columns′ npvs′) (l : r - p ≤ 65536) where
         read : lineRead (accountOf k) (drop q text) ≡ some (accountIn row)
@@ -96,11 +97,11 @@ module _ {text : List ℕ} {p count k j q : ℕ} {columns : List ℕ} {npvs : Li
         within : q + indexOf LF (drop q text) + 1 - p ≤ 65536
         within = omega (arith, next-is)
 
-        abbrev day : ℕ → DayInput
-        day number = dayRead number (j + 1) k columns′ npvs′
+        abbrev day : DayTerms → DayInput
+        day terms = dayRead terms (j + 1) k columns′ npvs′
 
-        many : (number : ℕ) → length (day number .headings) ≡ j + 1
-        many number = table-length (headingAt (columnAt 0 columns′) (columnAt 1 columns′) (columnAt 2 columns′)) 0 (j + 1)
+        many : (terms : DayTerms) → length (day terms .headings) ≡ j + 1
+        many terms = table-length (headingAt (columnAt 0 columns′) (columnAt 1 columns′) (columnAt 2 columns′)) 0 (j + 1)
 
         pub reading-more : r ≤ length text → ReadSoFar text p count k (j + 1) r columns′ npvs′
         reading-more m =
@@ -108,12 +109,12 @@ module _ {text : List ℕ} {p count k j q : ℕ} {columns : List ℕ} {npvs : Li
               far = omega (arith, b .far, next-is);
               near = m;
               few = omega arith;
-              due = λ g number at e y.
+              due = λ g terms at e y.
                   let t : at + 1 + j + 1 ≡ at + 1 + (j + 1) = omega arith in
-                  let lined = line-more g _ at count (at + 1 + j) text p q (omega (arith, b .far)) (accountIn row) (read-by g e ∙ read) within (day number) (day-more number s) (omega (arith, many number)) in
-                  b .due g number at e h ∙ rw (next-is, t) at lined;
-              done = λ g number at e y.
+                  let lined = line-more g _ at count (at + 1 + j) text p q (omega (arith, b .far)) (accountIn row) (read-by g e ∙ read) within (day terms) (day-more terms s) (omega (arith, many terms)) in
+                  b .due g terms at e h ∙ rw (next-is, t) at lined;
+              done = λ g terms at e y.
                   let t : at + 1 + j + 1 ≡ at + 1 + count = omega arith in
-                  let lined = line-last g _ at count (at + 1 + j) text p q (omega (arith, b .far)) (accountIn row) (read-by g e ∙ read) within (day number) (day-more number s) (many number ∙ y) in
-                  b .due g number at e h ∙ rw (next-is, t) at lined;
+                  let lined = line-last g _ at count (at + 1 + j) text p q (omega (arith, b .far)) (accountIn row) (read-by g e ∙ read) within (day terms) (day-more terms s) (many terms ∙ y) in
+                  b .due g terms at e h ∙ rw (next-is, t) at lined;
             }

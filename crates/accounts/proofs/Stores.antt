@@ -13,6 +13,7 @@ use Rattle.numbers.specs.Lists.{range}
 use Rattle.numbers.specs.Signed.{_⁺}
 use Rattle.numbers.proofs.Lists.{range-more, mem-range, map-eq}
 use Rattle.methodology.specs.Text.{withAccount}
+use Rattle.methodology.specs.declared.DayTerms.{DayTerms}
 use Rattle.methodology.specs.Account.{headingAt}
 use Rattle.lines.specs.Forms.{accountIn}
 use Rattle.accounts.specs.AcctLines.{columnAt, RowStored, dayRead}
@@ -62,10 +63,10 @@ headings-more ms ns ks j m n t a b c =
 take-more : (l : List ℕ) (j x : ℕ) → j < length l → take (j + 1) (set l j x) ≡ take j l ++ (x ∷ [])
 take-more l j x h = let next : j + 1 ≡ suc j = omega arith in rw next (take-suc-set l j x h)
 
-pub day-more : (number : ℕ) {j k : ℕ} {row : List ℤ} {cs : List ℕ} {vs : List ℤ} {cs′ : List ℕ} {vs′ : List ℤ} → Stored j k row cs vs cs′ vs′
-    → withAccount (dayRead number j k cs vs) (accountIn row) ≡ dayRead number (j + 1) k cs′ vs′
+pub day-more : (terms : DayTerms) {j k : ℕ} {row : List ℤ} {cs : List ℕ} {vs : List ℤ} {cs′ : List ℕ} {vs′ : List ℤ} → Stored j k row cs vs cs′ vs′
+    → withAccount (dayRead terms j k cs vs) (accountIn row) ≡ dayRead terms (j + 1) k cs′ vs′
 unfolding withAccount
-day-more number {j} {k} {row} {cs} {vs} s =
+day-more terms {j} {k} {row} {cs} {vs} s =
     let room : (c : ℕ) → c ≤ 4 → j < length (columnAt c cs) = λ c h. omega (arith, s .inside, column-length c cs h (s .inside .1)) in
     let (members, numbers, kinds, margins, extras) = s .columns-are in
     rw (

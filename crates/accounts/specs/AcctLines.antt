@@ -1,13 +1,14 @@
 -- What reading a day's acct lines comes to: the report from the first of them on, in terms of the accounts that stand in the columns, or of
 -- the first bad line.
-use mathlib.Core.List.{List, [], map}
+use mathlib.Core.List.{List, map}
 use mathlib.Core.Path.{_≡_}
 use Prim.Native.Nat.{ℕ, _+_, _*_, _≤_, _<_}
 use lib.IntN.{ℤ, pos}
 use lib.ListN.{length, getD, take, drop, set}
 use Rattle.numbers.specs.Lists.{range}
 use Rattle.numbers.specs.Signed.{_⁺}
-use Rattle.methodology.specs.Account.{DayInput, headingAt}
+use Rattle.methodology.specs.declared.DayTerms.{DayTerms}
+use Rattle.methodology.specs.Account.{DayInput, noAccounts, headingAt}
 use Rattle.methodology.specs.Register.{Call, Register, refusal}
 use Rattle.methodology.specs.Text.{LF, split, refusedLine, account, sized, followedBy, reportFrom}
 use Rattle.lines.specs.declared.Lines.{Lines}
@@ -27,10 +28,10 @@ RowStored row j columns columns′ =
     × (columnAt 4 columns′ ≡ set (columnAt 4 columns) j (getD row 5 (pos 0) ⁺))
 
 -- a day of the first `count` accounts in the columns, with k + 1 NPVs each
-abbrev pub dayRead : (number count k : ℕ) → (columns : List ℕ) → (npvs : List ℤ) → DayInput
-dayRead number count k columns npvs =
+abbrev pub dayRead : DayTerms → (count k : ℕ) → (columns : List ℕ) → (npvs : List ℤ) → DayInput
+dayRead terms count k columns npvs =
     record {
-      number = number;
+      terms = terms;
       headings = map (headingAt (columnAt 0 columns) (columnAt 1 columns) (columnAt 2 columns)) (range 0 count);
       npvs = take (count * (k + 1)) npvs;
       margins = take count (columnAt 3 columns);
@@ -38,9 +39,8 @@ dayRead number count k columns npvs =
     }
 
 -- The report from index p on, where a day's first acct line is due; the day line was `at`.
-abbrev pub accountsDue : (text : List ℕ) → (p : ℕ) → Register → (number at count : ℕ) → List ℕ
-accountsDue text p g number at count =
-    reportFrom (at + 1) (split LF (drop p text)) (account g (record { number = number; headings = []; npvs = []; margins = []; extras = [] }) at count 0)
+abbrev pub accountsDue : (text : List ℕ) → (p : ℕ) → Register → DayTerms → (at count : ℕ) → List ℕ
+accountsDue text p g terms at count = reportFrom (at + 1) (split LF (drop p text)) (account g (noAccounts terms) at count 0)
 
 -- The report where all were read and the next line stands at index p: the day call is made.
 abbrev pub dayDue : (text : List ℕ) → (p : ℕ) → Register → DayInput → (at count : ℕ) → List ℕ
@@ -51,6 +51,6 @@ unfoldable pub AccountsMeet : (text : List ℕ) → (p count k : ℕ) → (colum
 AccountsMeet text p count k columns npvs (Read next) =
     (p + count ≤ next)
     × (next ≤ length text)
-    × ((g : Register) (number at : ℕ) → g .held .k ≡ k → accountsDue text p g number at count ≡ dayDue text next g (dayRead number count k columns npvs) at count)
+    × ((g : Register) (terms : DayTerms) (at : ℕ) → g .held .k ≡ k → accountsDue text p g terms at count ≡ dayDue text next g (dayRead terms count k columns npvs) at count)
 AccountsMeet text p count k columns npvs (Stopped j) =
-    (j < count) × ((g : Register) (number at : ℕ) → g .held .k ≡ k → accountsDue text p g number at count ≡ refusedLine 9 (at + 1 + j))
+    (j < count) × ((g : Register) (terms : DayTerms) (at : ℕ) → g .held .k ≡ k → accountsDue text p g terms at count ≡ refusedLine 9 (at + 1 + j))

@@ -7,6 +7,7 @@ use lib.IntN.{ℤ}
 use lib.ListN.{take, drop}
 use lib.Seq.{take-take}
 use Rattle.numbers.proofs.Lists.{table-take}
+use Rattle.methodology.specs.declared.DayTerms.{DayTerms}
 use Rattle.methodology.specs.declared.Heading.{Heading}
 use Rattle.methodology.specs.Account.{DayInput, nobody, headingAt}
 use Rattle.headings.specs.Columns.{packed}
@@ -22,13 +23,13 @@ column-part c count columns h =
     let z : 256 * c + count - 256 * c ≡ count = omega arith in
     rw z (sym (take-take count 256 (drop (256 * c) columns) h))
 
-pub day-brought : (number count k : ℕ) (columns : List ℕ) (npvs : List ℤ) (hs : List Heading) (margins extras : List ℕ) → count ≤ 256
+pub day-brought : (terms : DayTerms) (count k : ℕ) (columns : List ℕ) (npvs : List ℤ) (hs : List Heading) (margins extras : List ℕ) → count ≤ 256
     → hs ≡ packed (columnAt 0 columns) (columnAt 1 columns) (columnAt 2 columns) → margins ≡ take count (columnAt 3 columns) → extras ≡ take count (columnAt 4 columns)
-    → dayBrought number (take count hs) (take (count * (k + 1)) npvs) margins extras ≡ dayRead number count k columns npvs
+    → dayBrought terms (take count hs) (take (count * (k + 1)) npvs) margins extras ≡ dayRead terms count k columns npvs
 unfolding packed
-day-brought number count k columns npvs hs margins extras h e m x =
+day-brought terms count k columns npvs hs margins extras h e m x =
     let headings = ap (take count) e ∙ table-take (headingAt (columnAt 0 columns) (columnAt 1 columns) (columnAt 2 columns)) 0 256 count nobody h in
-    λ i. dayBrought number (headings i) (take (count * (k + 1)) npvs) (m i) (x i)
+    λ i. dayBrought terms (headings i) (take (count * (k + 1)) npvs) (m i) (x i)
 
 pub same-day : {period : Period} {d d′ : DayInput} {before after : List ℕ} {r : Reply} → d ≡ d′ → DayMeets period d before r after → DayMeets period d′ before r after
 same-day {period} {before = before} {after = after} {r = r} e m = subst (λ (d : DayInput). DayMeets period d before r after) e m

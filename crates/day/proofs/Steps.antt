@@ -10,6 +10,7 @@ use lib.ListN.{length, take, drop, length-map, length-append}
 use lib.Seq.{length-take-le}
 use Rattle.numbers.specs.Lists.{range}
 use Rattle.numbers.proofs.Lists.{range-length}
+use Rattle.methodology.specs.declared.DayTerms.{DayTerms}
 use Rattle.methodology.specs.Account.{DayInput, headingAt}
 use Rattle.methodology.specs.Register.{Call, Register, step}
 use Rattle.methodology.specs.Text.{LF, split, refusedLine, reportFrom}
@@ -30,9 +31,9 @@ use Rattle.day.specs.Turns.{daysDue, TurnMeets, ended, goes-on, Stands}
 
 -- ---- the call of a day that was read
 
-pub read-outcome : (count k number : ℕ) (columns : List ℕ) (npvs : List ℤ) {period : Period} {before figures : List ℕ} {r : Reply}
-    → DayMeets period (dayRead number count k columns npvs) before r figures → OfDay count (r .outcome)
-read-outcome count k number columns npvs {r = r} m =
+pub read-outcome : (count k : ℕ) (terms : DayTerms) (columns : List ℕ) (npvs : List ℤ) {period : Period} {before figures : List ℕ} {r : Reply}
+    → DayMeets period (dayRead terms count k columns npvs) before r figures → OfDay count (r .outcome)
+read-outcome count k terms columns npvs {r = r} m =
     let heading = headingAt (columnAt 0 columns) (columnAt 1 columns) (columnAt 2 columns) in
     subst (λ (c : ℕ). OfDay c (r .outcome)) (length-map (range 0 count) heading ∙ range-length 0 count) (day-outcome m)
 
@@ -63,9 +64,9 @@ module _ (text : List ℕ) (p count k : ℕ) (columns : List ℕ) (npvs : List �
     unfolding AccountsMeet
     stopped-few = told-stopped .0
 
-    pub stopped-due : (g : Register) (period : Period) (n number line : ℕ) → InStep g period n k → accountsDue text p g number line count ≡ refusedLine 9 (line + 1 + j)
+    pub stopped-due : (g : Register) (period : Period) (n : ℕ) (terms : DayTerms) (line : ℕ) → InStep g period n k → accountsDue text p g terms line count ≡ refusedLine 9 (line + 1 + j)
     unfolding AccountsMeet
-    stopped-due g period n number line h = told-stopped .1 g number line (h .scenarios)
+    stopped-due g period n terms line h = told-stopped .1 g terms line (h .scenarios)
 
   module _ (next : ℕ) (e : r ≡ Read next) where
     told-read : AccountsMeet text p count k columns npvs (Read next)
@@ -75,10 +76,10 @@ module _ (text : List ℕ) (p count k : ℕ) (columns : List ℕ) (npvs : List �
     unfolding AccountsMeet
     read-inside = (told-read .0, told-read .1)
 
-    pub read-due : (g : Register) (period : Period) (n number line : ℕ) → InStep g period n k
-        → accountsDue text p g number line count ≡ dayDue text next g (dayRead number count k columns npvs) line count
+    pub read-due : (g : Register) (period : Period) (n : ℕ) (terms : DayTerms) (line : ℕ) → InStep g period n k
+        → accountsDue text p g terms line count ≡ dayDue text next g (dayRead terms count k columns npvs) line count
     unfolding AccountsMeet
-    read-due g period n number line h = told-read .2 g number line (h .scenarios)
+    read-due g period n terms line h = told-read .2 g terms line (h .scenarios)
 
 -- ---- turns
 
@@ -92,17 +93,17 @@ module _ (text : List ℕ) (n k : ℕ) (g : Register) (period : Period) (h : InS
   abbrev turn : Turn
   turn = record { over = isOver (r .outcome); to = record { next = next; line = line + 1 + count; at = end; period = r .period } }
 
-  due-is : dayDue text next g d line count ≡ said (r .outcome) (d .number) line n figures ++ cond (isOver (r .outcome)) [] (daysDue text next (line + 1 + count) after)
+  due-is : dayDue text next g d line count ≡ said (r .outcome) (d .terms .number) line n figures ++ cond (isOver (r .outcome)) [] (daysDue text next (line + 1 + count) after)
   due-is = day-said n k g period h d line before r figures m room (reportFrom (line + 1 + count) (split LF (drop next text)))
 
-  pub said-turn : Put out at (said (r .outcome) (d .number) line n figures) out′ end
+  pub said-turn : Put out at (said (r .outcome) (d .terms .number) line n figures) out′ end
       → TurnMeets (dayDue text next g d line count) text n k out at out′ turn
   said-turn w = by (isOver (r .outcome)) refl
     where
       by : (t : Bool) → isOver (r .outcome) ≡ t
           → TurnMeets (dayDue text next g d line count) text n k out at out′ turn
-      by true q = ended q (rw (due-is, q, append-nil (said (r .outcome) (d .number) line n figures)) w)
-      by false q = goes-on q after (said (r .outcome) (d .number) line n figures) (day-in-step n k g period h d line before r figures m room q) w (rw (due-is, q))
+      by true q = ended q (rw (due-is, q, append-nil (said (r .outcome) (d .terms .number) line n figures)) w)
+      by false q = goes-on q after (said (r .outcome) (d .terms .number) line n figures) (day-in-step n k g period h d line before r figures m room q) w (rw (due-is, q))
 
 module _ {due text before after : List ℕ} {n k at : ℕ} {t : Turn} where
   pub same-due : {due′ : List ℕ} → due′ ≡ due → TurnMeets due text n k before at after t → TurnMeets due′ text n k before at after t

@@ -3,6 +3,7 @@ use accounts::read_accounts;
 use answers::is_over;
 use answers::say;
 use lines::Lines;
+use methodology::DayTerms;
 use period::Period;
 use period::Reply;
 use report::put_refused;
@@ -56,7 +57,7 @@ pub fn refused(from: Progress, number: u64, line: u64, out: &mut [u8]) -> Turn
 // Makes the day call of the first `count` accounts in the columns.
 fn size_day(
     period: Period,
-    number: u64,
+    terms: DayTerms,
     count: usize,
     k: usize,
     columns: &[u64],
@@ -64,12 +65,12 @@ fn size_day(
     figures: &mut [u64],
 ) -> Reply
     requires { ⌜ (k ≤ 16) × (count ≤ 256) × (length (now columns) ≡ 1280) × (count * (k + 1) ≤ length (now npvs)) ⌝ }
-    ensures { λ r. ⌜ DayMeets period (dayRead number count k (now (columns .entry)) (now (npvs .entry))) (now (figures .entry)) r (now (figures .exit)) ⌝ }
+    ensures { λ r. ⌜ DayMeets period (dayRead terms count k (now (columns .entry)) (now (npvs .entry))) (now (figures .entry)) r (now (figures .exit)) ⌝ }
 {
     let headings = headings::pack(&columns[..256], &columns[256..512], &columns[512..768]);
     let width = count * (k + 1);
     period.day_of(
-        number,
+        terms,
         headings,
         count,
         &npvs[..width],
@@ -82,7 +83,7 @@ fn size_day(
 // A day's turn where its acct lines are read: the text goes on at `from`, whose line is still the day line. The call is made and printed.
 fn sized_turn(
     from: Progress,
-    number: u64,
+    terms: DayTerms,
     count: usize,
     n: usize,
     k: usize,
@@ -92,26 +93,18 @@ fn sized_turn(
 ) -> Turn
     requires { ⌜ (count ≤ 256) × (n ≤ 32) × (k ≤ 16) × (from .line + 257 < 2 ^ 64) ⌝ }
     requires { ⌜ (length (now columns) ≡ 1280) × (count * (k + 1) ≤ length (now npvs)) ⌝ }
-    ensures { λ r. ⌜ ((g : Register) (text : List ℕ) → InStep g (from .period) n k → TurnMeets (dayDue text (from .next) g (dayRead number count k (now (columns .entry)) (now (npvs .entry))) (from .line) count) text n k (now (out .entry)) (from .at) (now (out .exit)) r) ⌝ }
+    ensures { λ r. ⌜ ((g : Register) (text : List ℕ) → InStep g (from .period) n k → TurnMeets (dayDue text (from .next) g (dayRead terms count k (now (columns .entry)) (now (npvs .entry))) (from .line) count) text n k (now (out .entry)) (from .at) (now (out .exit)) r) ⌝ }
     ensures { λ r. ⌜ (r .to .next ≡ from .next) × (r .to .line ≡ from .line + 1 + count) ⌝ }
 {
     let mut figures = [0u64; 160];
     let room = 5 * n;
     let period = from.period;
-    let reply = size_day(
-        period,
-        number,
-        count,
-        k,
-        columns,
-        npvs,
-        &mut figures[..room],
-    );
+    let reply = size_day(period, terms, count, k, columns, npvs, &mut figures[..room]);
     let outcome = reply.outcome;
     let after = reply.period;
     let end = say(
         outcome,
-        number,
+        terms.number,
         from.line,
         n,
         &figures[..room],
@@ -134,7 +127,7 @@ fn sized_turn(
 pub fn take_day(
     text: &[u8],
     mut from: Progress,
-    number: u64,
+    terms: DayTerms,
     count: usize,
     n: usize,
     k: usize,
@@ -142,7 +135,7 @@ pub fn take_day(
 ) -> Turn
     requires { ⌜ (from .next ≤ length (now text)) × (from .line ≤ from .next) ⌝ }
     requires { ⌜ (1 ≤ count) × (count ≤ 256) × (n ≤ 32) × (1 ≤ k) × (k ≤ 16) ⌝ }
-    ensures { λ r. ⌜ ((g : Register) → InStep g (from .period) n k → TurnMeets (accountsDue (now (text .entry)) (from .next) g number (from .line) count) (now (text .entry)) n k (now (out .entry)) (from .at) (now (out .exit)) r) ⌝ }
+    ensures { λ r. ⌜ ((g : Register) → InStep g (from .period) n k → TurnMeets (accountsDue (now (text .entry)) (from .next) g terms (from .line) count) (now (text .entry)) n k (now (out .entry)) (from .at) (now (out .exit)) r) ⌝ }
     ensures { λ r. ⌜ Stands (now (text .entry)) (from .next) r ⌝ }
 {
     let mut columns = [0u64; 1280]; // members, account numbers, kinds, margins, extras
@@ -152,7 +145,7 @@ pub fn take_day(
         Lines::Stopped(j) => refused(from, 9, from.line + 1 + j as u64, out),
         Lines::Read(next) => {
             from.next = next;
-            sized_turn(from, number, count, n, k, &columns, &npvs, out)
+            sized_turn(from, terms, count, n, k, &columns, &npvs, out)
         }
     }
 }

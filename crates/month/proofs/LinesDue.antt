@@ -11,6 +11,7 @@ use lib.Seq.{length-take-le}
 use borrow.Author.Tests.{ltb-true, lt-ltb, le-ltb}
 use Rattle.numbers.proofs.Tests.{both}
 use Rattle.numbers.proofs.Lists.{first-le}
+use Rattle.methodology.specs.declared.DayTerms.{DayTerms}
 use Rattle.methodology.specs.Register.{Call, Register, refusal}
 use Rattle.methodology.specs.Refusals.{nOutside, kOutside, countOutside}
 use Rattle.methodology.specs.Text.{LF, bytes, same, split, numbersAfter, refusedLine, afterEnd, readPeriod, readDay, closed, followedBy, reportFrom, reportOf}
@@ -50,7 +51,7 @@ module _ (text : List ℕ) (p line : ℕ) (g : Register) (d : isEnd (drop p text
   unfolding readDay followedBy
   day-bad z = day-line g line (drop p text) d ∙ rw (row-zero _ _ row r found (omega arith) z)
 
-  module _ (z : r ≡ 0 → ⊥) (number count : ℕ) (first : getD row 0 0 ≡ number) (second : getD row 1 0 ≡ count) where
+  module _ (z : r ≡ 0 → ⊥) (terms : DayTerms) (count : ℕ) (first : _≡_ {A = DayTerms} (record { number = getD row 0 0 }) terms) (second : getD row 1 0 ≡ count) where
     abbrev day-told : (lineRead (numbersAfter (bytes "day") 2) (drop p text) ≡ some row) × (r ≡ p + indexOf LF (drop p text) + 1)
     day-told = row-read _ _ row r found z
 
@@ -58,7 +59,7 @@ module _ (text : List ℕ) (p line : ℕ) (g : Register) (d : isEnd (drop p text
     unfolding readDay followedBy
     day-outside h = day-line g line (drop p text) d ∙ rw (day-told .0, second, h)
 
-    pub day-good : countOutside count ≡ false → daysDue text p line g ≡ accountsDue text r g number line count
+    pub day-good : countOutside count ≡ false → daysDue text p line g ≡ accountsDue text r g terms line count
     unfolding readDay followedBy
     day-good h = day-line g line (drop p text) d ∙ rw (day-told .0, first, second, h, after-is LF text p, day-told .1)
 

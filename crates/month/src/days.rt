@@ -6,6 +6,7 @@ use day::ended;
 use day::refused;
 use day::take_day;
 use lines::numbers_at;
+use methodology::DayTerms;
 use report::put_refused;
 use validation::limits::count_outside;
 ghost use mathlib.Core.Path.{_≡_};
@@ -70,13 +71,13 @@ fn turn_at(text: &[u8], mut from: Progress, n: usize, k: usize, out: &mut [u8]) 
     if next == 0 {
         return refused(from, 9, from.line, out);
     }
-    let number = head[0];
+    let terms = DayTerms { number: head[0] };
     let count = head[1];
     if count_outside(count) {
         return refused(from, 4, from.line, out);
     }
     from.next = next;
-    take_day(text, from, number, count as usize, n, k, out)
+    take_day(text, from, terms, count as usize, n, k, out)
 }
 
 // The report from there on: days, and the end.

@@ -29,7 +29,7 @@ module _ (c : tie.After-size-day) where
   long = c .size-day .kept .1 .1 .1 .1 .1 .1 .0 ∙ length-take-le (5 * n) _ (omega (arith, start .pre .0 .1))
 
   outcome : OfDay (start .args .count) (c .size-day .result .outcome)
-  outcome = read-outcome (start .args .count) (start .args .k) (start .args .number) (start .args .columns .now) (start .args .npvs .now) (c .size-day .ensures)
+  outcome = read-outcome (start .args .count) (start .args .k) (start .args .terms) (start .args .columns .now) (start .args .npvs .now) (c .size-day .ensures)
 
 mul-room : tie.Need-mul-room
 mul-room c = search needs
@@ -73,7 +73,7 @@ returns c =
     let s = start a in
     let args = s .args in
     let w = c .before .before .before .before .say in
-    let said-of : List ℕ → List ℕ = said (a .size-day .result .outcome) (args .number) (args .from .line) (n a) in
+    let said-of : List ℕ → List ℕ = said (a .size-day .result .outcome) (args .terms .number) (args .from .line) (n a) in
     let put = subst (λ (l : List ℕ). Put (args .out .now) (args .from .at) (said-of l) (w .last .1 .1 .1 .1 .1 .0) (w .result)) (take-at (figures a) _ _ (long a)) (w .ensures) in
     let room = sym (a .size-day .kept .1 .1 .1 .1 .1 .1 .0) ∙ long a in
     ((λ g text h. rw (c .is-over .ensures) (said-turn text (n a) (args .k) g (args .from .period) h _ (args .from .line) (args .count) (args .from .next) _ _ _ (a .size-day .ensures) room _ _ _ _ put)), (refl, refl))

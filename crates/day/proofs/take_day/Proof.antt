@@ -62,7 +62,7 @@ returns c =
     let a = c .before .before .before .before .before .before .before .before .before .before .before .before .before .before .before .args in
     let r = c .before .before .refused in
     let due = stopped-due (a .text .now) (a .from .next) (a .count) (a .k) _ _ _ (read .ensures) _ stopped in
-    ((λ g h. ended (r .ensures .0) (same-put (due g _ _ (a .number) (a .from .line) h) (r .ensures .1))), over-stands _ _ _ (r .ensures .0))
+    ((λ g h. ended (r .ensures .0) (same-put (due g _ _ (a .terms) (a .from .line) h) (r .ensures .1))), over-stands _ _ _ (r .ensures .0))
 
 same-length-2 : tie.Need-same-length-2
 same-length-2 c = search needs
@@ -76,7 +76,7 @@ returns-2 c =
     let t = c .before .before .sized-turn in
     let inside = read-inside (a .text .now) (a .from .next) (a .count) (a .k) _ _ _ (read .ensures) _ all in
     let due = read-due (a .text .now) (a .from .next) (a .count) (a .k) _ _ _ (read .ensures) _ all in (
-      (λ g h. same-due (due g _ _ (a .number) (a .from .line) h) (t .ensures .0 g (a .text .now) h)),
+      (λ g h. same-due (due g _ _ (a .terms) (a .from .line) h) (t .ensures .0 g (a .text .now) h)),
       stands-at _ _ _ _ _ (t .ensures .1 .0) (t .ensures .1 .1) (omega (arith, inside)) (inside .1) (omega (arith, inside, s .pre .0)),
     )
 

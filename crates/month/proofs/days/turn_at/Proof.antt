@@ -6,6 +6,7 @@ use Prim.Native.Nat.{ℕ, _+_}
 use native.Mathlib.Omega.{arith}
 use lib.ListN.{getD, drop}
 use Rattle.numbers.specs.Lists.{any}
+use Rattle.methodology.specs.declared.DayTerms.{DayTerms}
 use Rattle.methodology.specs.Refusals.{countOutside}
 use Rattle.methodology.specs.Lines.{indexOf, isEnd, lineRead}
 use Rattle.methodology.specs.Text.{LF, bytes, numbersAfter}
@@ -35,8 +36,8 @@ module _ (l : tie.After-numbers-at) where
   abbrev row : List ℕ
   row = l .numbers-at .last .1 .1 .1 .0
 
-  abbrev number : ℕ
-  number = getD row 0 0
+  abbrev terms : DayTerms
+  terms = record { number = getD row 0 0 }
 
   abbrev count : ℕ
   count = getD row 1 0
@@ -100,11 +101,11 @@ returns-2 c =
     let bad = c .before .before .before .before .if2 .taken in
     ((λ g h. ended (r .ensures .0) (same-put (day-bad (text l) (p l) (line l) g (no-end l) (row l) _ (found l) bad) (r .ensures .1))), over-stands _ _ _ (r .ensures .0))
 
-array-read-number : tie.Need-array-read-number
-array-read-number c = search needs
-
 array-read-count : tie.Need-array-read-count
 array-read-count c = search needs
+
+array-read-count-2 : tie.Need-array-read-count-2
+array-read-count-2 c = search needs
 
 count-outside-requires : tie.Need-count-outside-requires
 count-outside-requires c κs = search needs
@@ -121,7 +122,7 @@ returns-3 c =
     let r = c .before .before .refused2 in
     let beyond = sym (c .before .before .before .before .before .count-outside .ensures) ∙ c .before .before .before .before .if3 .taken in
     let good = c .before .before .before .before .before .before .if2 .left in (
-      (λ g h. ended (r .ensures .0) (same-put (day-outside (text l) (p l) (line l) g (no-end l) (row l) _ (found l) good (number l) (count l) refl refl beyond) (r .ensures .1))),
+      (λ g h. ended (r .ensures .0) (same-put (day-outside (text l) (p l) (line l) g (no-end l) (row l) _ (found l) good (terms l) (count l) refl refl beyond) (r .ensures .1))),
       over-stands _ _ _ (r .ensures .0),
     )
 
@@ -142,7 +143,7 @@ returns-4 c =
     let l = read e in
     let good = e .before .before .if2 .left in
     let taken = c .before .before .take-day .ensures in (
-      (λ g h. same-due (day-good (text l) (p l) (line l) g (no-end l) (row l) _ (found l) good (number l) (count l) refl refl (within e)) (taken .0 g h)),
+      (λ g h. same-due (day-good (text l) (p l) (line l) g (no-end l) (row l) _ (found l) good (terms l) (count l) refl refl (within e)) (taken .0 g h)),
       stands-before _ _ _ _ (line-after (text l) (p l) _ (row l) _ (found l) good) (taken .1),
     )
 
@@ -161,8 +162,8 @@ turn-at-spec =
     refused-requires
     same-length-2
     returns-2
-    array-read-number
     array-read-count
+    array-read-count-2
     count-outside-requires
     refused-requires-2
     same-length-3
