@@ -123,7 +123,8 @@ fn sized_turn(
     }
 }
 
-// A day's turn from its first acct line on, which stands at `from`, whose line is still the day line.
+// A day's turn from its first acct line on, which stands at `from`, whose line is still the day line. The columns and the NPVs are lent for
+// it to be read into.
 pub fn take_day(
     text: &[u8],
     mut from: Progress,
@@ -131,21 +132,22 @@ pub fn take_day(
     count: usize,
     n: usize,
     k: usize,
+    columns: &mut [u64],
+    npvs: &mut [i64],
     out: &mut [u8],
 ) -> Turn
+    requires { ⌜ (length (now columns) ≡ 1280) × (length (now npvs) ≡ 4352) ⌝ }
     requires { ⌜ (from .next ≤ length (now text)) × (from .line ≤ from .next) ⌝ }
     requires { ⌜ (1 ≤ count) × (count ≤ 256) × (n ≤ 32) × (1 ≤ k) × (k ≤ 16) ⌝ }
     ensures { λ r. ⌜ ((g : Register) → InStep g (from .period) n k → TurnMeets (accountsDue (now (text .entry)) (from .next) g terms (from .line) count) (now (text .entry)) n k (now (out .entry)) (from .at) (now (out .exit)) r) ⌝ }
     ensures { λ r. ⌜ Stands (now (text .entry)) (from .next) r ⌝ }
 {
-    let mut columns = [0u64; 1280]; // members, account numbers, kinds, margins, extras
-    let mut npvs = [0i64; 4352];
-    let lines = read_accounts(text, from.next, count, k, &mut columns, &mut npvs);
+    let lines = read_accounts(text, from.next, count, k, columns, npvs);
     match lines {
         Lines::Stopped(j) => refused(from, 9, from.line + 1 + j as u64, out),
         Lines::Read(next) => {
             from.next = next;
-            sized_turn(from, terms, count, n, k, &columns, &npvs, out)
+            sized_turn(from, terms, count, n, k, columns, npvs, out)
         }
     }
 }

@@ -55,8 +55,17 @@ fn end_at(text: &[u8], from: Progress, n: usize, out: &mut [u8]) -> usize
     close(from, n, &mut figures[..room], out)
 }
 
-// One turn: the end line and what follows, or a day.
-fn turn_at(text: &[u8], mut from: Progress, n: usize, k: usize, out: &mut [u8]) -> Turn
+// One turn: the end line and what follows, or a day, for which the columns and the NPVs are lent.
+fn turn_at(
+    text: &[u8],
+    mut from: Progress,
+    n: usize,
+    k: usize,
+    columns: &mut [u64],
+    npvs: &mut [i64],
+    out: &mut [u8],
+) -> Turn
+    requires { ⌜ (length (now columns) ≡ 1280) × (length (now npvs) ≡ 4352) ⌝ }
     requires { ⌜ (from .next ≤ length (now text)) × (from .line ≤ from .next + 1) ⌝ }
     requires { ⌜ (n ≤ 32) × (1 ≤ k) × (k ≤ 16) ⌝ }
     ensures { λ r. ⌜ ((g : Register) → InStep g (from .period) n k → TurnMeets (daysDue (now (text .entry)) (from .next) (from .line) g) (now (text .entry)) n k (now (out .entry)) (from .at) (now (out .exit)) r) ⌝ }
@@ -77,19 +86,39 @@ fn turn_at(text: &[u8], mut from: Progress, n: usize, k: usize, out: &mut [u8]) 
         return refused(from, 4, from.line, out);
     }
     from.next = next;
-    take_day(text, from, terms, count as usize, n, k, out)
+    take_day(text, from, terms, count as usize, n, k, columns, npvs, out)
 }
 
 // The report from there on: days, and the end.
+fn days_in(
+    text: &[u8],
+    from: Progress,
+    n: usize,
+    k: usize,
+    columns: &mut [u64],
+    npvs: &mut [i64],
+    out: &mut [u8],
+) -> usize
+    requires { ⌜ (length (now columns) ≡ 1280) × (length (now npvs) ≡ 4352) ⌝ }
+    requires { ⌜ (from .next ≤ length (now text)) × (from .line ≤ from .next + 1) ⌝ }
+    requires { ⌜ (n ≤ 32) × (1 ≤ k) × (k ≤ 16) ⌝ }
+    ensures { λ r. ⌜ ((g : Register) → InStep g (from .period) n k → Put (now (out .entry)) (from .at) (daysDue (now (text .entry)) (from .next) (from .line) g) (now (out .exit)) r) ⌝ }
+{
+    let turn = turn_at(text, from, n, k, columns, npvs, out);
+    let to = turn.to;
+    if turn.over {
+        return to.at;
+    }
+    days_in(text, to, n, k, columns, npvs, out)
+}
+
+// The same, with columns and NPVs of its own: all days are read into the same, which are cleared once.
 pub fn days(text: &[u8], from: Progress, n: usize, k: usize, out: &mut [u8]) -> usize
     requires { ⌜ (from .next ≤ length (now text)) × (from .line ≤ from .next + 1) ⌝ }
     requires { ⌜ (n ≤ 32) × (1 ≤ k) × (k ≤ 16) ⌝ }
     ensures { λ r. ⌜ ((g : Register) → InStep g (from .period) n k → Put (now (out .entry)) (from .at) (daysDue (now (text .entry)) (from .next) (from .line) g) (now (out .exit)) r) ⌝ }
 {
-    let turn = turn_at(text, from, n, k, out);
-    let to = turn.to;
-    if turn.over {
-        return to.at;
-    }
-    days(text, to, n, k, out)
+    let mut columns = [0u64; 1280]; // members, account numbers, kinds, margins, extras
+    let mut npvs = [0i64; 4352];
+    days_in(text, from, n, k, &mut columns, &mut npvs, out)
 }

@@ -22,7 +22,7 @@ use Rattle.month.proofs.days.turn_at.Tie as tie
 -- where the line was read as a day line
 module _ (l : tie.After-numbers-at) where
   abbrev start : tie.Start
-  start = l .before .before .before .before .before .before .before
+  start = l .before .before .before .before .before .before .before .before
 
   abbrev text : List ℕ
   text = start .args .text .now
@@ -62,8 +62,8 @@ is-end-requires c κs = search needs
 
 end-at-requires : tie.Need-end-at-requires
 end-at-requires c κs =
-    let s = c .before .before .before .before .before in
-    (end-inside (s .args .text .now) (s .args .from .next) (sym (c .before .before .is-end .ensures) ∙ c .before .if1 .taken), s .pre .0 .1, s .pre .1 .0)
+    let s = c .before .before .before .before .before .before in
+    (end-inside (s .args .text .now) (s .args .from .next) (sym (c .before .before .is-end .ensures) ∙ c .before .if1 .taken), s .pre .1 .0 .1, s .pre .1 .1 .0)
 
 ended-requires : tie.Need-ended-requires
 ended-requires c κs = search needs
@@ -73,7 +73,7 @@ same-length c = search needs
 
 returns : tie.Need-returns
 returns c =
-    let a = c .before .before .before .before .before .before .before .before .before .args in
+    let a = c .before .before .before .before .before .before .before .before .before .before .args in
     let is-end = sym (c .before .before .before .before .before .before .is-end .ensures) ∙ c .before .before .before .before .before .if1 .taken in
     let due = end-due (a .text .now) (a .from .next) is-end (a .from .line) in
     rw (c .ended .ensures) ((λ g h. ended refl (same-put (due g) (c .before .before .before .end-at .ensures g _ h))), over-stands _ _ _ refl)
@@ -86,7 +86,7 @@ slice-aggregate-numbers-at-2 c = search needs
 
 numbers-at-requires : tie.Need-numbers-at-requires
 unfolding any
-numbers-at-requires c κs = (c .before .before .before .before .before .before .pre .0 .0, (refl, (omega arith, omega arith)))
+numbers-at-requires c κs = (c .before .before .before .before .before .before .before .pre .1 .0 .0, (refl, (omega arith, omega arith)))
 
 refused-requires : tie.Need-refused-requires
 refused-requires c κs = search needs
@@ -128,21 +128,28 @@ returns-3 c =
 
 take-day-requires : tie.Need-take-day-requires
 take-day-requires c κs =
-    let l = read (c .before) in
+    let e = c .before .before .before in
+    let l = read e in
     let s = start l in
-    let after = line-after (text l) (p l) _ (row l) _ (found l) (c .before .before .before .if2 .left) in
-    let few = inside _ _ _ (within (c .before)) in
-    ((l .numbers-at .ensures .1 .0, omega (arith, s .pre .0)), (few .0, few .1, s .pre .1 .0, s .pre .1 .1, s .pre .1 .2))
+    let after = line-after (text l) (p l) _ (row l) _ (found l) (e .before .before .if2 .left) in
+    let few = inside _ _ _ (within e) in
+    (s .pre .0, ((l .numbers-at .ensures .1 .0, omega (arith, s .pre .1 .0)), (few .0, few .1, s .pre .1 .1 .0, s .pre .1 .1 .1, s .pre .1 .1 .2)))
 
 same-length-4 : tie.Need-same-length-4
 same-length-4 c = search needs
 
+same-length-5 : tie.Need-same-length-5
+same-length-5 c = search needs
+
+same-length-6 : tie.Need-same-length-6
+same-length-6 c = search needs
+
 returns-4 : tie.Need-returns-4
 returns-4 c =
-    let e = c .before .before .before .before in
+    let e = c .before .before .before .before .before .before .before .before .before in
     let l = read e in
     let good = e .before .before .if2 .left in
-    let taken = c .before .before .take-day .ensures in (
+    let taken = c .before .before .before .before .before .take-day .ensures in (
       (λ g h. same-due (day-good (text l) (p l) (line l) g (no-end l) (row l) _ (found l) good (terms l) (count l) refl refl (within e)) (taken .0 g h)),
       stands-before _ _ _ _ (line-after (text l) (p l) _ (row l) _ (found l) good) (taken .1),
     )
@@ -170,4 +177,6 @@ turn-at-spec =
     returns-3
     take-day-requires
     same-length-4
+    same-length-5
+    same-length-6
     returns-4)
