@@ -14,7 +14,7 @@ use Rattle.period.specs.declared.Outcome.{Outcome}
 use Rattle.period.specs.declared.Outcome.the-variants.{Closed}
 use Rattle.period.specs.declared.Period.{Period}
 use Rattle.period.specs.declared.Reply.{Reply}
-use Rattle.period.specs.Reading.{brought, answerOf}
+use Rattle.period.specs.Reading.{answerOf}
 use Rattle.period.specs.Calls.{freshPeriod, OpeningMeets, DayMeets, ClosingMeets}
 use Rattle.period.specs.Follows.{Follows}
 use Rattle.period.proofs.Simulation.{starts, opening-follows, day-follows, closing-follows}
@@ -25,33 +25,33 @@ use Rattle.answers.proofs.Outcomes.{OfOpening, opened, unopened, openin
 
 -- ---- the opening
 
-module _ (n k : ℕ) (groups : List ℕ) (r : Reply) (m : OpeningMeets freshPeriod (brought n k groups) r) where
+module _ (o : Opening) (r : Reply) (m : OpeningMeets freshPeriod o r) where
   abbrev first : Call
-  first = Call.opening (brought n k groups)
+  first = Call.opening o
 
   first-told : {o : Outcome} → r .outcome ≡ o → answerBy (refusal start first) (returned (step start first) first) ≡ answerOf o
   unfolding answer
   first-told e = sym (opening-follows starts m .1) ∙ ap answerOf e
 
-  pub opening-said : (rest : Expected → List ℕ) → followedBy (Text·opened (refusal start first) (brought n k groups)) rest
+  pub opening-said : (rest : Expected → List ℕ) → followedBy (Text·opened (refusal start first) o) rest
       ≡ said (r .outcome) 0 1 0 [] ++ cond (isOver (r .outcome)) [] (rest (day (step start first)))
   unfolding Text·opened followedBy said isOver
   opening-said rest = by (r .outcome) refl (opening-outcome m)
     where
-      by : (o : Outcome) → r .outcome ≡ o → OfOpening o
-          → followedBy (Text·opened (refusal start first) (brought n k groups)) rest ≡ said o 0 1 0 [] ++ cond (isOver o) [] (rest (day (step start first)))
-      by o e opened = rw (is-clear (refusal start first) _ _ (first-told e) .0)
-      by o e (unopened row) = rw (is-row (refusal start first) _ _ (first-told e)) (sym (append-nil (refusedLine row 1)))
+      by : (x : Outcome) → r .outcome ≡ x → OfOpening x
+          → followedBy (Text·opened (refusal start first) o) rest ≡ said x 0 1 0 [] ++ cond (isOver x) [] (rest (day (step start first)))
+      by x e opened = rw (is-clear (refusal start first) _ _ (first-told e) .0)
+      by x e (unopened row) = rw (is-row (refusal start first) _ _ (first-told e)) (sym (append-nil (refusedLine row 1)))
 
-  pub opening-in-step : isOver (r .outcome) ≡ false → InStep (step start first) (r .period) n k
+  pub opening-in-step : isOver (r .outcome) ≡ false → InStep (step start first) (r .period) (o .n) (o .k)
   unfolding accept isOver
   opening-in-step = by (r .outcome) refl (opening-outcome m)
     where
-      by : (o : Outcome) → r .outcome ≡ o → OfOpening o → isOver o ≡ false → InStep (step start first) (r .period) n k
-      by o e opened t =
-          let h : step start first .held ≡ brought n k groups = ap (λ (g : Register). g .held) (step-clear start first (is-clear (refusal start first) _ _ (first-told e) .0)) in
+      by : (x : Outcome) → r .outcome ≡ x → OfOpening x → isOver x ≡ false → InStep (step start first) (r .period) (o .n) (o .k)
+      by x e opened t =
+          let h : step start first .held ≡ o = ap (λ (g : Register). g .held) (step-clear start first (is-clear (refusal start first) _ _ (first-told e) .0)) in
           record { follows = opening-follows starts m .0; members = ap (λ (o : Opening). o .n) h; scenarios = ap (λ (o : Opening). o .k) h }
-      by o e (unopened row) t = absurd (true≢false t)
+      by x e (unopened row) t = absurd (true≢false t)
 
 -- ---- a day
 

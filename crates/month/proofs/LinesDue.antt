@@ -11,7 +11,9 @@ use lib.Seq.{length-take-le}
 use borrow.Author.Tests.{ltb-true, lt-ltb, le-ltb}
 use Rattle.numbers.proofs.Tests.{both}
 use Rattle.numbers.proofs.Lists.{first-le}
+use Rattle.methodology.specs.declared.Opening.{Opening}
 use Rattle.methodology.specs.declared.DayTerms.{DayTerms}
+use Rattle.methodology.specs.Account.{withGroups}
 use Rattle.methodology.specs.Register.{Call, Register, refusal}
 use Rattle.methodology.specs.Refusals.{nOutside, kOutside, countOutside}
 use Rattle.methodology.specs.Text.{LF, bytes, same, split, numbersAfter, refusedLine, afterEnd, readPeriod, readDay, closed, followedBy, reportFrom, reportOf}
@@ -39,9 +41,9 @@ module _ (text row : List ℕ) (r : ℕ) (found : RowIs (lineRead (numbersAfter 
     unfolding reportOf readPeriod followedBy
     period-outside h = period-line 1 text ∙ rw (told .0, first, second, h)
 
-    pub period-good : (nOutside n || kOutside k) ≡ false → reportOf text ≡ membersDue text r n k
+    pub period-good : (o : Opening) → _≡_ {A = Opening} (record { n = n; k = k; groups = [] }) (withGroups o []) → (nOutside n || kOutside k) ≡ false → reportOf text ≡ membersDue text r o
     unfolding reportOf readPeriod followedBy
-    period-good h = period-line 1 text ∙ rw (told .0, first, second, h, after-is LF text 0, told .1)
+    period-good o e h = period-line 1 text ∙ rw (told .0, first, second, h, e, after-is LF text 0, told .1)
 
 -- ---- a day line
 

@@ -4,6 +4,7 @@ mod members;
 
 use crate::members::from_members;
 use lines::numbers_at;
+use methodology::Opening;
 use report::put_refused;
 use validation::limits::k_outside;
 use validation::limits::n_outside;
@@ -24,5 +25,10 @@ pub fn report(text: &[u8], out: &mut [u8]) -> usize
     if n_outside(n) || k_outside(k) {
         return put_refused(out, 0, 1, 1);
     }
-    from_members(text, next, n as usize, k as usize, out)
+    let opening = Opening {
+        n,
+        k,
+        groups: [0; 32],
+    };
+    from_members(text, next, opening, out)
 }

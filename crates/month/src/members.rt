@@ -5,6 +5,7 @@ use answers::say;
 use day::Progress;
 use lines::Lines;
 use lines::numbers_at;
+use methodology::Opening;
 use period::Period;
 use report::put_refused;
 ghost use Prim.Native.Nat.{_≤_};
@@ -12,15 +13,15 @@ ghost use lib.ListN.{length};
 ghost use Rattle.report.specs.Put.{Put};
 ghost use Rattle.month.specs.MemberLines.{membersDue, MembersMeet};
 
-// Reads the n member lines from index p on, the groups into the slice.
-fn read_members(text: &[u8], p: usize, n: usize, groups: &mut [u64]) -> Lines
+// Reads the member lines of an opening from index p on, its groups into the slice.
+fn read_members(text: &[u8], p: usize, opening: Opening, groups: &mut [u64]) -> Lines
     requires { ⌜ p ≤ length (now text) ⌝ }
-    requires { ⌜ (1 ≤ n) × (n ≤ length (now groups)) ⌝ }
-    ensures { λ r. ⌜ MembersMeet (now (text .entry)) p n (now (groups .exit)) r ⌝ }
+    requires { ⌜ (1 ≤ opening .n) × (opening .n ≤ length (now groups)) ⌝ }
+    ensures { λ r. ⌜ MembersMeet (now (text .entry)) p opening (now (groups .exit)) r ⌝ }
 {
     let mut at = p;
     let mut j: usize = 0;
-    while j < n {
+    while j < opening.n as usize {
         let mut line = [0u64; 2]; // member, group
         let next = numbers_at(text, at, b"member", &mut line);
         if next == 0 {
@@ -36,14 +37,16 @@ fn read_members(text: &[u8], p: usize, n: usize, groups: &mut [u64]) -> Lines
     Lines::Read(at)
 }
 
-// The report from the member lines on.
-pub fn from_members(text: &[u8], p: usize, n: usize, k: usize, out: &mut [u8]) -> usize
+// The report from the member lines on. The period line brought the opening, all but its groups.
+pub fn from_members(text: &[u8], p: usize, opening: Opening, out: &mut [u8]) -> usize
     requires { ⌜ (1 ≤ p) × (p ≤ length (now text)) ⌝ }
-    requires { ⌜ (1 ≤ n) × (n ≤ 32) × (1 ≤ k) × (k ≤ 16) ⌝ }
-    ensures { λ r. ⌜ Put (now (out .entry)) 0 (membersDue (now (text .entry)) p n k) (now (out .exit)) r ⌝ }
+    requires { ⌜ (1 ≤ opening .n) × (opening .n ≤ 32) × (1 ≤ opening .k) × (opening .k ≤ 16) ⌝ }
+    ensures { λ r. ⌜ Put (now (out .entry)) 0 (membersDue (now (text .entry)) p opening) (now (out .exit)) r ⌝ }
 {
+    let n = opening.n as usize;
+    let k = opening.k as usize;
     let mut groups = [0u64; 32];
-    let lines = read_members(text, p, n, &mut groups);
+    let lines = read_members(text, p, opening, &mut groups);
     let next = match lines {
         Lines::Stopped(j) => {
             return put_refused(out, 0, 9, 2 + j as u64);
@@ -51,7 +54,7 @@ pub fn from_members(text: &[u8], p: usize, n: usize, k: usize, out: &mut [u8]) -
         Lines::Read(next) => next,
     };
     let period = Period::fresh();
-    let reply = period.opening(n as u64, k as u64, &groups[..n]);
+    let reply = period.opening(opening.n, opening.k, &groups[..n]);
     let outcome = reply.outcome;
     let after = reply.period;
     let end = say(outcome, 0, 1, 0, &[], out, 0); // no day's number, line 1, no figures of members
@@ -60,7 +63,7 @@ pub fn from_members(text: &[u8], p: usize, n: usize, k: usize, out: &mut [u8]) -
     }
     let from = Progress {
         next,
-        line: 2 + n as u64,
+        line: 2 + opening.n,
         at: end,
         period: after,
     };

@@ -6,7 +6,7 @@ use mathlib.Core.List.{List}
 use mathlib.Core.Logic.{⊎-elim}
 use Prim.Native.Nat.{ℕ}
 use native.Mathlib.Omega.{arith}
-use lib.ListN.{getD}
+use lib.ListN.{getD, replicate}
 use Rattle.numbers.specs.Lists.{any}
 use Rattle.methodology.specs.Refusals.{nOutside, kOutside}
 use Rattle.methodology.specs.Text.{bytes}
@@ -102,7 +102,7 @@ returns-3 : tie.Need-returns-3
 unfolding bytes
 returns-3 c =
     let l = c .before .before .before .before .before .before .before .before .before .before in
-    rw (period-good (c .before .before .before .before .before .before .before .before .before .before .before .before .before .before .before .args .text .now) (row l) _ (l .numbers-at .ensures .0) (c .before .before .before .before .before .before .before .before .if1 .left) (n l) (k l) refl refl (within (c .before .before .before .before))) (c .before .before .from-members .ensures)
+    rw (period-good (c .before .before .before .before .before .before .before .before .before .before .before .before .before .before .before .args .text .now) (row l) _ (l .numbers-at .ensures .0) (c .before .before .before .before .before .before .before .before .if1 .left) (n l) (k l) refl refl (record { n = n l; k = k l; groups = replicate 32 0 }) refl (within (c .before .before .before .before))) (c .before .before .from-members .ensures)
 
 pub report-spec : {M : Type 1} → statement M
 report-spec =

@@ -6,7 +6,8 @@ use native.Mathlib.Omega.{arith}
 use native.Mathlib.Nat.{mul-zero}
 use lib.ListN.{length, take}
 use lib.Seq.{length-take-le}
-use Rattle.period.specs.Reading.{brought}
+use Rattle.methodology.specs.declared.Opening.{Opening}
+use Rattle.methodology.specs.Account.{withGroups}
 use Rattle.period.specs.Calls.{freshPeriod, OpeningMeets}
 use Rattle.answers.specs.Said.{widthSaid}
 use Rattle.answers.proofs.Outcomes.{opening-outcome, opening-line}
@@ -31,11 +32,11 @@ module _ (c : tie.After-lines2) where
   abbrev p : ℕ
   p = start read .args .p
 
-  abbrev n : ℕ
-  n = start read .args .n
+  abbrev o : Opening
+  o = start read .args .opening
 
-  abbrev k : ℕ
-  k = start read .args .k
+  abbrev n : ℕ
+  n = o .n
 
   abbrev next : ℕ
   next = c .lines2 .given .0 .0
@@ -43,15 +44,15 @@ module _ (c : tie.After-lines2) where
   abbrev groups : List ℕ
   groups = read .read-members .last .1 .1 .1 .0
 
-  told : (p + n ≤ next) × (next ≤ length text) × ((k : ℕ) → membersDue text p n k ≡ openingDue text next (brought n k (take n groups)))
-  told = members-read text p n groups _ (read .read-members .ensures) next (c .lines2 .given .1)
+  told : (p + n ≤ next) × (next ≤ length text) × (membersDue text p o ≡ openingDue text next (withGroups o (take n groups)))
+  told = members-read text p o groups _ (read .read-members .ensures) next (c .lines2 .given .1)
 
 -- where the opening call was made
 module _ (c : tie.After-opening) where
   abbrev lines : tie.After-lines2
   lines = c .before .before .before .before
 
-  opened : OpeningMeets freshPeriod (brought (n lines) (k lines) (take (n lines) (groups lines))) (c .opening .result)
+  opened : OpeningMeets freshPeriod (withGroups (o lines) (take (n lines) (groups lines))) (c .opening .result)
   opened = from-fresh (c .before .before .fresh .ensures) (c .opening .ensures)
 
 slice-aggregate-read-members : tie.Need-slice-aggregate-read-members
@@ -79,7 +80,7 @@ returns : tie.Need-returns
 returns c =
     let read = c .before .before .before .before .before .before .before .before in
     let due = members-stopped _ _ _ _ _ (read .read-members .ensures) _ (c .before .before .before .before .before .lines .given .1) .1 in
-    same-put (due (start read .args .k)) (c .before .before .put-refused .ensures)
+    same-put due (c .before .before .put-refused .ensures)
 
 enum-known-lines-2 : tie.Need-enum-known-lines-2
 enum-known-lines-2 c = search needs
@@ -116,14 +117,14 @@ returns-2 c =
     let a = c .before .before .before .before .before .before .before .before in
     let l = lines a in
     let over = sym (c .before .is-over .ensures) ∙ c .if1 .taken in
-    same-put (told l .2 (k l)) (opening-ends (text l) (n l) (k l) (next l) _ _ (opened a) _ _ _ (c .before .before .before .before .say .ensures) over)
+    same-put (told l .2) (opening-ends (text l) (next l) _ _ (opened a) _ _ _ (c .before .before .before .before .say .ensures) over)
 
-add-t26 : tie.Need-add-t26
-add-t26 c = let h = c .before .before .before .before .before .before .before .before .before .before .before .before .before .before .before .before .before .before .before .pre .1 .1 in search needs
+add-t33 : tie.Need-add-t33
+add-t33 c = let h = c .before .before .before .before .before .before .before .before .before .before .before .before .before .before .before .before .before .before .before .before .pre .1 .1 in search needs
 
 days-requires : tie.Need-days-requires
 days-requires c κs =
-    let l = lines (c .before .before .before .before .before .before .before .before .before) in
+    let l = lines (c .before .before .before .before .before .before .before .before .before .before) in
     let s = start (read l) in
     ((told l .1, omega (arith, told l, s .pre .0 .0)), (s .pre .1 .1, s .pre .1 .2, s .pre .1 .3))
 
@@ -132,10 +133,10 @@ same-length-3 c = search needs
 
 returns-3 : tie.Need-returns-3
 returns-3 c =
-    let a = c .before .before .before .before .before .before .before .before .before .before .before .before in
+    let a = c .before .before .before .before .before .before .before .before .before .before .before .before .before in
     let l = lines a in
-    let on = sym (c .before .before .before .before .before .is-over .ensures) ∙ c .before .before .before .before .if1 .left in
-    same-put (told l .2 (k l)) (opening-goes-on (text l) (n l) (k l) (next l) _ _ (opened a) _ _ _ (c .before .before .before .before .before .before .before .before .say .ensures) _ _ on (c .before .before .days .ensures))
+    let on = sym (c .before .before .before .before .before .before .is-over .ensures) ∙ c .before .before .before .before .before .if1 .left in
+    same-put (told l .2) (opening-goes-on (text l) (next l) _ _ (opened a) _ _ _ (c .before .before .before .before .before .before .before .before .before .say .ensures) _ _ on (c .before .before .days .ensures))
 
 pub from-members-spec : {M : Type 1} → statement M
 from-members-spec =
@@ -158,7 +159,7 @@ from-members-spec =
     is-over-requires
     same-length-2
     returns-2
-    add-t26
+    add-t33
     days-requires
     same-length-3
     returns-3)

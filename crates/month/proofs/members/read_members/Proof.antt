@@ -13,10 +13,10 @@ use Rattle.month.proofs.members.read_members.Statement.{statement}
 use Rattle.month.proofs.members.read_members.Tie as tie
 
 abbrev Inv-loop : tie.InvT-loop
-Inv-loop text p n groups₀ at₀ j₀ t9 groups at j = Left text p n (length groups₀) groups at j
+Inv-loop text p opening groups₀ at₀ j₀ t9 groups at j = Left text p opening (length groups₀) groups at j
 
 abbrev μ-loop : tie.MeasureT-loop
-μ-loop text p n groups₀ at₀ j₀ t9 groups at j = n - j
+μ-loop text p opening groups₀ at₀ j₀ t9 groups at j = opening .n - j
 
 -- the numbers of the line, where it was read
 abbrev row : tie.After-numbers-at Inv-loop μ-loop → List ℕ
