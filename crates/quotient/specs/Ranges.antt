@@ -20,14 +20,14 @@ pub record Charge (m s d : ℕ) : Type 0 where
   pub month : d ≤ 31
   pub shares : s ≤ d * scale
 
--- long division takes a factor in digits from 0 to base - 1
-abbrev pub base : ℕ
-base = 2 ^ 13
+-- long division takes a factor in digits from 0 to radix - 1
+abbrev pub radix : ℕ
+radix = 2 ^ 13
 
 -- a · b by c, in digits of b: a remainder and a digit's product fit together, and so does the quotient, even rounded up
 pub record Division (a b c : ℕ) : Type 0 where
   pub positive : 0 < c
-  pub digit : (a + c) * base ≤ 2 ^ 64
+  pub digit : (a + c) * radix ≤ 2 ^ 64
   pub result : a * b / c + 1 < 2 ^ 64
 
 -- factor times a fraction whose divisor is t, its quotient quot and its remainder rem: what is left of it to round adds at most factor

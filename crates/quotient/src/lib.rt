@@ -3,7 +3,7 @@ ghost use mathlib.Core.Path.{_≡_};
 ghost use Prim.Native.Nat.{_*_, _+_, _/_, _%_, _<_, _≤_};
 ghost use Rattle.numbers.specs.Rounding.{ceilDiv, roundDiv};
 ghost use Rattle.methodology.specs.Day.{scale};
-ghost use Rattle.quotient.specs.Ranges.{greatestTotal, Loss, Charge, Division, Multiple, base};
+ghost use Rattle.quotient.specs.Ranges.{greatestTotal, Loss, Charge, Division, Multiple, radix};
 
 // The share of a member that has the whole loss.
 pub const SCALE: u64 = 1_000_000_000_000;
@@ -47,7 +47,7 @@ pub fn raw(m: u64, s: u64, d: u64) -> u64
 }
 
 // Long division takes a factor in digits of 13 bits, so that each turn stays in 64 bits for numbers up to 2^50.
-const BASE: u64 = 8192;
+const RADIX: u64 = 8192;
 
 struct QuotRem {
     quot: u64,
@@ -56,12 +56,12 @@ struct QuotRem {
 
 // One turn of long division: from b without its last digit to b.
 fn turn(h: QuotRem, a: u64, b: u64, c: u64) -> QuotRem
-    requires { ⌜ Division a b c × (h .quot ≡ a * (b / base) / c) × (h .rem ≡ a * (b / base) % c) ⌝ }
+    requires { ⌜ Division a b c × (h .quot ≡ a * (b / radix) / c) × (h .rem ≡ a * (b / radix) % c) ⌝ }
     ensures { λ r. ⌜ (r .quot ≡ a * b / c) × (r .rem ≡ a * b % c) ⌝ }
 {
-    let x = h.rem * BASE + a * (b % BASE);
+    let x = h.rem * RADIX + a * (b % RADIX);
     QuotRem {
-        quot: h.quot * BASE + x / c,
+        quot: h.quot * RADIX + x / c,
         rem: x % c,
     }
 }
@@ -71,10 +71,10 @@ fn mul_div(a: u64, b: u64, c: u64) -> QuotRem
     requires { ⌜ Division a b c ⌝ }
     ensures { λ r. ⌜ (r .quot ≡ a * b / c) × (r .rem ≡ a * b % c) ⌝ }
 {
-    let b1 = b / BASE;
-    let b2 = b1 / BASE;
-    let b3 = b2 / BASE;
-    let b4 = b3 / BASE;
+    let b1 = b / RADIX;
+    let b2 = b1 / RADIX;
+    let b3 = b2 / RADIX;
+    let b4 = b3 / RADIX;
     let h5 = QuotRem { quot: 0, rem: 0 };
     let h4 = turn(h5, a, b4, c);
     let h3 = turn(h4, a, b3, c);

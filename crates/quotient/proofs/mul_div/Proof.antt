@@ -5,18 +5,18 @@ use native.Mathlib.Omega.{arith}
 use native.Mathlib.Nat.{mul-zero, zero-div, zero-mod}
 use borrow.Author.Needs.{needs}
 use Rattle.numbers.proofs.Division.{prefix-le}
-use Rattle.quotient.specs.Ranges.{Division, base}
+use Rattle.quotient.specs.Ranges.{Division, radix}
 use Rattle.quotient.proofs.mul_div.Statement.{statement}
 use Rattle.quotient.proofs.mul_div.Tie as tie
 
 -- what fits for b fits for b without its last digit
-shorter : {a b c : ℕ} → Division a b c → Division a (b / base) c
+shorter : {a b c : ℕ} → Division a b c → Division a (b / radix) c
 shorter {a} {b} {c} h =
-    record { positive = h .positive; digit = h .digit; result = omega (arith, prefix-le a b c base (h .positive)) }
+    record { positive = h .positive; digit = h .digit; result = omega (arith, prefix-le a b c radix (h .positive)) }
 
 turn-requires : tie.Need-turn-requires
 turn-requires c κs =
-    let none : c .args .b / base / base / base / base / base ≡ 0 = omega arith in (
+    let none : c .args .b / radix / radix / radix / radix / radix ≡ 0 = omega arith in (
       shorter (shorter (shorter (shorter (c .pre)))),
       rw (none, mul-zero) (sym (zero-div (c .args .c))),
       rw (none, mul-zero) (sym (zero-mod (c .args .c))),

@@ -4,17 +4,17 @@ use Prim.Native.Nat.{_+_, _*_, _/_, _%_, _^_, _<_}
 use native.Mathlib.Omega.{arith}
 use borrow.Author.Needs.{needs}
 use Rattle.numbers.proofs.Division.{turn-quot, turn-rem, turn-lt}
-use Rattle.quotient.specs.Ranges.{base}
+use Rattle.quotient.specs.Ranges.{radix}
 use Rattle.quotient.proofs.turn.Statement.{statement}
 use Rattle.quotient.proofs.turn.Tie as tie
 
 module _ (s : tie.Start) where
-  next-fits : s .args .h .rem * base + s .args .a * (s .args .b % base) < 2 ^ 64
+  next-fits : s .args .h .rem * radix + s .args .a * (s .args .b % radix) < 2 ^ 64
   next-fits =
-      turn-lt _ _ _ base (s .pre .0 .positive) _ _ (s .pre .1) (s .pre .2) (2 ^ 64) (omega arith) (s .pre .0 .digit)
+      turn-lt _ _ _ radix (s .pre .0 .positive) _ _ (s .pre .1) (s .pre .2) (2 ^ 64) (omega arith) (s .pre .0 .digit)
 
-  quot-is : s .args .h .quot * base + (s .args .h .rem * base + s .args .a * (s .args .b % base)) / s .args .c ≡ s .args .a * s .args .b / s .args .c
-  quot-is = turn-quot _ _ _ base (s .pre .0 .positive) _ _ (s .pre .1) (s .pre .2)
+  quot-is : s .args .h .quot * radix + (s .args .h .rem * radix + s .args .a * (s .args .b % radix)) / s .args .c ≡ s .args .a * s .args .b / s .args .c
+  quot-is = turn-quot _ _ _ radix (s .pre .0 .positive) _ _ (s .pre .1) (s .pre .2)
 
 mul-x : tie.Need-mul-x
 mul-x c = omega (arith, next-fits (c .before))
@@ -40,7 +40,7 @@ rem-t9 c = search needs
 returns : tie.Need-returns
 returns c =
     let s = c .before .before in
-    (quot-is s, turn-rem _ _ _ base (s .pre .0 .positive) _ _ (s .pre .1) (s .pre .2))
+    (quot-is s, turn-rem _ _ _ radix (s .pre .0 .positive) _ _ (s .pre .1) (s .pre .2))
 
 pub turn-spec : {M : Type 1} → statement M
 turn-spec = tie.close (tie.spec mul-x mul-x-2 add-x mul-t6 div-t8 add-t7 rem-t9 returns)
