@@ -12,9 +12,9 @@ import re
 import sys
 
 CLAIM = "crates/demand3/proofs/Demand3.antt"
-# They hand the period that they are given to functions of the claim. A period's fields being
-# private, another crate can do no more with one.
-PASSING_ON = {"day::take_day", "month::days::days"}
+# They hand the period that they are given to functions of the claim, or back as it is. A period's
+# fields being private, another crate can do no more with one.
+PASSING_ON = {"day::ended", "day::refused", "day::take_day", "month::days::days"}
 
 TOKEN = re.compile(r"""//[^\n]*|/\*.*?\*/|b?"(?:\\.|[^"\\])*"|b'(?:\\.|[^\\'])+'|\w+|\S""", re.S)
 BRACKETS = {"(": 1, "[": 1, "{": 1, ")": -1, "]": -1, "}": -1}

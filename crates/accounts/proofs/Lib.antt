@@ -1,5 +1,5 @@
 pub mod Npvs
-pub mod Columns
+pub mod FiveColumns
 pub mod Line
 pub mod Stores
 pub mod AcctLoop

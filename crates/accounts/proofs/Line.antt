@@ -16,7 +16,7 @@ use Rattle.methodology.specs.Register.{Call, Register, refusal}
 use Rattle.methodology.specs.Text.{LF, split, AccountLine, accountOf, refusedLine, account, Read, goesOn, bad, sized, withAccount, readAccount, followedBy, reportFrom}
 use Rattle.methodology.specs.Lines.{indexOf, before, after, lineRead}
 use Rattle.methodology.proofs.Splits.{usedBy, account-line}
-use Rattle.fields.proofs.Parts.{after-is}
+use Rattle.fields.proofs.TextParts.{after-is}
 
 module _ (g : Register) (d : DayInput) (at count i : ℕ) (text : List ℕ) (p q : ℕ) (far : p ≤ q) where
   abbrev s : List ℕ

@@ -18,7 +18,7 @@ use Rattle.methodology.specs.Account.{headingAt}
 use Rattle.lines.specs.Forms.{accountIn}
 use Rattle.accounts.specs.AcctLines.{columnAt, RowStored, dayRead}
 use Rattle.accounts.proofs.Npvs.{npvsOf}
-use Rattle.accounts.proofs.Columns.{column-length}
+use Rattle.accounts.proofs.FiveColumns.{column-length}
 
 -- the place of account j's NPVs, w for each account
 pub place-inside : (j count w n : ℕ) → j < count → count * w ≤ n → j * w + w ≤ n

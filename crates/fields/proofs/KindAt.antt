@@ -12,9 +12,9 @@ use borrow.Author.Tests.{ne-eqb}
 use Rattle.numbers.specs.Lists.{any}
 use Rattle.methodology.specs.Text.{bytes, same, kindOf}
 use Rattle.fields.specs.Fields.{stops, size, front, valueOf, valueAt}
-use Rattle.fields.proofs.Parts.{tail-is}
-use Rattle.fields.proofs.Words.{other-length}
-use Rattle.fields.proofs.Values.{its-end, other-end, no-end}
+use Rattle.fields.proofs.TextParts.{tail-is}
+use Rattle.fields.proofs.SameBytes.{other-length}
+use Rattle.fields.proofs.OneValue.{its-end, other-end, no-end}
 
 -- the size of what is left
 pub size-left : (s : List ℕ) (p r : ℕ) → r ≡ size (take (length s - p) (drop p s)) → r ≡ size (drop p s)

@@ -1,8 +1,8 @@
-pub mod Parts
-pub mod Words
+pub mod TextParts
+pub mod SameBytes
 pub mod Fronts
-pub mod Digits
-pub mod Values
+pub mod DigitsRead
+pub mod OneValue
 pub mod Signs
 pub mod KindAt
-pub mod Rows
+pub mod RowRead

@@ -20,8 +20,8 @@ use Rattle.methodology.specs.Text.{numberOf, below0, above0, signedOf}
 use Rattle.fields.specs.declared.Natural.{Natural}
 use Rattle.fields.specs.Fields.{stops, size, front, ender, numberAt, told, minusOf, valueOf, valueAt}
 use Rattle.fields.proofs.Fronts.{ended}
-use Rattle.fields.proofs.Digits.{number-bound}
-use Rattle.fields.proofs.Values.{where-held}
+use Rattle.fields.proofs.DigitsRead.{number-bound}
+use Rattle.fields.proofs.OneValue.{where-held}
 
 -- ---- the minus
 

@@ -1,6 +1,6 @@
 pub mod Ends
-pub mod Rows
-pub mod Values
-pub mod Forms
+pub mod RowOfLine
+pub mod Ascii
+pub mod FormsAsRows
 pub mod Words
-pub mod Answers
+pub mod Readers

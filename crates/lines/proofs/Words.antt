@@ -19,11 +19,11 @@ use Rattle.methodology.specs.Text.{LF, tab, same, fields, badBytes}
 use Rattle.methodology.specs.Lines.{indexOf, has, before, lineRead}
 use Rattle.methodology.proofs.Splits.{split-first, same-eq}
 use Rattle.fields.specs.Fields.{stops, size, front, past, rowAt, span, RowIs}
-use Rattle.fields.proofs.Rows.{row-none, row-some}
+use Rattle.fields.proofs.RowRead.{row-none, row-some}
 use Rattle.lines.specs.Forms.{notLetters, valuesOf, rowAfter, lineRow}
 use Rattle.lines.proofs.Ends.{lineFields, Tab, Last, Ends, at-tab, at-LF, nowhere, ends}
-use Rattle.lines.proofs.Rows.{eqb-suc, row-line, span-line}
-use Rattle.lines.proofs.Values.{foreign, any-split, values-ascii}
+use Rattle.lines.proofs.RowOfLine.{eqb-suc, row-line, span-line}
+use Rattle.lines.proofs.Ascii.{foreign, any-split, values-ascii}
 
 same-refl : (s : List ℕ) → same s s ≡ true
 unfolding same

@@ -19,7 +19,7 @@ use Rattle.methodology.specs.Refusals.{nOutside, kOutside, countOutside}
 use Rattle.methodology.specs.Text.{LF, bytes, same, split, numbersAfter, refusedLine, afterEnd, readPeriod, readDay, closed, followedBy, reportFrom, reportOf}
 use Rattle.methodology.specs.Lines.{indexOf, has, before, isEnd, lineRead}
 use Rattle.methodology.proofs.Splits.{split-first, same-eq, period-line, end-line, day-line, nothing-after, something-after}
-use Rattle.fields.proofs.Parts.{tail-is, after-is}
+use Rattle.fields.proofs.TextParts.{tail-is, after-is}
 use Rattle.fields.specs.Fields.{RowIs}
 use Rattle.lines.proofs.Words.{row-zero, row-read}
 use Rattle.accounts.specs.AcctLines.{accountsDue}

@@ -17,7 +17,7 @@ use Rattle.methodology.specs.Text.{LF, bytes, split, refusedLine, numbersAfter,
 use Rattle.methodology.specs.Lines.{indexOf, lineRead}
 use Rattle.methodology.proofs.Splits.{member-line}
 use Rattle.fields.specs.Fields.{RowIs}
-use Rattle.fields.proofs.Parts.{after-is}
+use Rattle.fields.proofs.TextParts.{after-is}
 use Rattle.lines.proofs.Words.{row-zero, row-read}
 use Rattle.period.specs.declared.Period.{Period}
 use Rattle.period.specs.declared.Reply.{Reply}

@@ -8,7 +8,7 @@ use lib.IntN.{ℤ, pos}
 use lib.ListN.{length, getD}
 use Rattle.numbers.proofs.Tests.{neither}
 use Rattle.lines.specs.Forms.{isNegative, signsWrong}
-use Rattle.accounts.proofs.Columns.{all-columns}
+use Rattle.accounts.proofs.FiveColumns.{all-columns}
 use borrow.Author.Needs.{needs}
 use Rattle.accounts.proofs.store.Statement.{statement}
 use Rattle.accounts.proofs.store.Tie as tie

@@ -2,7 +2,7 @@
 use mathlib.Core.Path.{ap}
 use lib.IntN.{pos}
 use lib.ListN.{getD, set}
-use Rattle.lines.proofs.Answers.{cast-asks, cast-gives}
+use Rattle.lines.proofs.Readers.{cast-asks, cast-gives}
 use borrow.Author.Needs.{needs}
 use Rattle.accounts.proofs.store_one.Statement.{statement}
 use Rattle.accounts.proofs.store_one.Tie as tie

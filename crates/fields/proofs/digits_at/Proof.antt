@@ -8,7 +8,7 @@ use native.Mathlib.Nat.{add-zero}
 use native.Mathlib.Omega.{arith}
 use lib.ListN.{getD}
 use Rattle.fields.specs.Fields.{Run}
-use Rattle.fields.proofs.Digits.{digit-is, cap, run-start, run-on}
+use Rattle.fields.proofs.DigitsRead.{digit-is, cap, run-start, run-on}
 use Rattle.fields.proofs.digits_at.Statement.{statement}
 use Rattle.fields.proofs.digits_at.Tie as tie
 

@@ -1,6 +1,6 @@
 -- `due` meets its contract: an LF ends the last field, and a tab any other.
 use mathlib.Core.Path.{refl}
-use Rattle.fields.proofs.Rows.{due-last, due-more}
+use Rattle.fields.proofs.RowRead.{due-last, due-more}
 use Rattle.fields.proofs.due.Statement.{statement}
 use Rattle.fields.proofs.due.Tie as tie
 

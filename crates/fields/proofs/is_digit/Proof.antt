@@ -1,5 +1,5 @@
 -- `is_digit` meets its contract: less 48, and wrapped, the digits alone are at most 9.
-use Rattle.fields.proofs.Digits.{below-ten}
+use Rattle.fields.proofs.DigitsRead.{below-ten}
 use borrow.Author.Needs.{needs}
 use Rattle.fields.proofs.is_digit.Statement.{statement}
 use Rattle.fields.proofs.is_digit.Tie as tie

@@ -6,7 +6,7 @@ use lib.ListN.{drop, set}
 use mir.Syntax.{w64}
 use Rattle.numbers.proofs.Signed.{back-ok}
 use Rattle.fields.specs.Fields.{size}
-use Rattle.fields.proofs.Values.{one-none, one-some}
+use Rattle.fields.proofs.OneValue.{one-none, one-some}
 use Rattle.fields.proofs.KindAt.{size-left, kind-open, kind-other, kind-bad, kind-good}
 use Rattle.fields.proofs.kind_at.Statement.{statement}
 use Rattle.fields.proofs.kind_at.Tie as tie

@@ -2,7 +2,7 @@
 use borrow.Author.Needs.{needs}
 use mathlib.Core.Logic.{⊎-elim}
 use native.Mathlib.Omega.{arith}
-use Rattle.fields.proofs.Digits.{other-bad, open-bad, empty-bad, zeros-bad, run-good}
+use Rattle.fields.proofs.DigitsRead.{other-bad, open-bad, empty-bad, zeros-bad, run-good}
 use Rattle.fields.proofs.natural_at.Statement.{statement}
 use Rattle.fields.proofs.natural_at.Tie as tie
 

@@ -8,13 +8,13 @@ use lib.Dec.{eqb}
 use lib.IntN.{ℤ}
 use lib.ListN.{length, drop}
 use Rattle.fields.specs.Fields.{valueAt, due}
-use Rattle.fields.proofs.Values.{one-read, one-unread}
-use Rattle.fields.proofs.Rows.{Rows, rows-start, rows-bad, rows-on, rows-all, rows-end, row-none, row-some}
+use Rattle.fields.proofs.OneValue.{one-read, one-unread}
+use Rattle.fields.proofs.RowRead.{RowSoFar, rows-start, rows-bad, rows-on, rows-all, rows-end, row-none, row-some}
 use Rattle.fields.proofs.row_at.Statement.{statement}
 use Rattle.fields.proofs.row_at.Tie as tie
 
 abbrev Inv-loop : tie.InvT-loop
-Inv-loop text p place row₀ at₀ j₀ row at j = Rows text p place (length row₀) row at j
+Inv-loop text p place row₀ at₀ j₀ row at j = RowSoFar text p place (length row₀) row at j
 
 abbrev μ-loop : tie.MeasureT-loop
 μ-loop text p place row₀ at₀ j₀ row at j = length row₀ - j

@@ -5,7 +5,7 @@ use native.Mathlib.Omega.{arith}
 use borrow.Author.Needs.{needs}
 use lib.ListN.{length, drop}
 use Rattle.methodology.specs.Text.{same}
-use Rattle.fields.proofs.Words.{other-length, equal-at, other-at, equal-end}
+use Rattle.fields.proofs.SameBytes.{other-length, equal-at, other-at, equal-end}
 use Rattle.fields.proofs.same.Statement.{statement}
 use Rattle.fields.proofs.same.Tie as tie
 

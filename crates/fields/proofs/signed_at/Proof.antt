@@ -5,7 +5,7 @@ use native.Mathlib.Omega.{arith}
 use lib.ListN.{set}
 use mir.Syntax.{w64}
 use Rattle.numbers.proofs.Signed.{back-ok}
-use Rattle.fields.proofs.Values.{no-end, one-none, one-some}
+use Rattle.fields.proofs.OneValue.{no-end, one-none, one-some}
 use Rattle.fields.proofs.Signs.{read-bad, read-small, read-zero, read-good, read-next, read-inside}
 use borrow.Author.Needs.{needs}
 use Rattle.fields.proofs.signed_at.Statement.{statement}

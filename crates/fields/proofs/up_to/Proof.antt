@@ -1,5 +1,5 @@
 -- `up_to` meets its contract: the bytes before the first b are the first part.
-use Rattle.fields.proofs.Parts.{part-first}
+use Rattle.fields.proofs.TextParts.{part-first}
 use borrow.Author.Needs.{needs}
 use Rattle.fields.proofs.up_to.Statement.{statement}
 use Rattle.fields.proofs.up_to.Tie as tie

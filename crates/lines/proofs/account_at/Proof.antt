@@ -11,7 +11,7 @@ use lib.ListN.{getD}
 use Rattle.numbers.specs.Lists.{any}
 use Rattle.methodology.specs.Text.{bytes}
 use Rattle.lines.specs.Forms.{signsWrong}
-use Rattle.lines.proofs.Answers.{tested, no-account, signs-bad, signs-good}
+use Rattle.lines.proofs.Readers.{tested, no-account, signs-bad, signs-good}
 use Rattle.lines.proofs.account_at.Statement.{statement}
 use Rattle.lines.proofs.account_at.Tie as tie
 

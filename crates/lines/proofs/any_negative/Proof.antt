@@ -6,7 +6,7 @@ use lib.IntN.{ℤ, pos}
 use lib.ListN.{length, getD}
 use Rattle.numbers.proofs.Lists.{NoneBefore, none-before, none-more, any-found, any-none}
 use Rattle.lines.specs.Forms.{isNegative}
-use Rattle.lines.proofs.Answers.{tested}
+use Rattle.lines.proofs.Readers.{tested}
 use Rattle.lines.proofs.any_negative.Statement.{statement}
 use Rattle.lines.proofs.any_negative.Tie as tie
 

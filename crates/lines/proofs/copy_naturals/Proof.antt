@@ -8,7 +8,7 @@ use lib.IntN.{ℤ, pos}
 use lib.ListN.{length, getD}
 use Rattle.numbers.proofs.Lists.{mem-at, any-false}
 use Rattle.lines.specs.Forms.{isNegative}
-use Rattle.lines.proofs.Answers.{cast-asks, cast-gives, Copied, copied-none, copied-more, copied-all}
+use Rattle.lines.proofs.Readers.{cast-asks, cast-gives, Copied, copied-none, copied-more, copied-all}
 use Rattle.lines.proofs.copy_naturals.Statement.{statement}
 use Rattle.lines.proofs.copy_naturals.Tie as tie
 

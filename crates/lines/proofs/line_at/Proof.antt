@@ -7,7 +7,7 @@ use borrow.Author.Needs.{needs}
 use borrow.Author.Tests.{not-true, not-false}
 use lib.ListN.{getD, drop}
 use Rattle.methodology.specs.Text.{same, fields}
-use Rattle.fields.proofs.Parts.{tail-is}
+use Rattle.fields.proofs.TextParts.{tail-is}
 use Rattle.lines.proofs.Words.{answer-other, answer-short, answer-row, answer-long, answer-good}
 use Rattle.lines.proofs.line_at.Statement.{statement}
 use Rattle.lines.proofs.line_at.Tie as tie

@@ -10,7 +10,7 @@ use Rattle.methodology.specs.Text.{LF}
 use Rattle.methodology.specs.Lines.{indexOf}
 use Rattle.fields.specs.Fields.{RowIs}
 use Rattle.lines.specs.Forms.{lineRow, isNegative}
-use Rattle.lines.proofs.Answers.{no-numbers, some-negative, all-natural}
+use Rattle.lines.proofs.Readers.{no-numbers, some-negative, all-natural}
 use Rattle.lines.proofs.numbers_by.Statement.{statement}
 use Rattle.lines.proofs.numbers_by.Tie as tie
 

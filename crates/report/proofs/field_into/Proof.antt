@@ -3,13 +3,13 @@ use lib.ListN.{length-set}
 use borrow.Author.Tests.{ltb-true, ltb-false}
 use mathlib.Core.Logic.{inl, inr, ⊎-elim}
 use native.Mathlib.Omega.{arith}
-use Rattle.report.proofs.Digits.{Filled, filled-start, filled-more, filled-all}
+use Rattle.report.proofs.DigitsPrinted.{DigitsFilled, filled-start, filled-more, filled-all}
 use borrow.Author.Needs.{needs}
 use Rattle.report.proofs.field_into.Statement.{statement}
 use Rattle.report.proofs.field_into.Tie as tie
 
 abbrev Inv-loop : tie.InvT-loop
-Inv-loop x buf₀ rest₀ j₀ buf rest j = Filled x buf rest j
+Inv-loop x buf₀ rest₀ j₀ buf rest j = DigitsFilled x buf rest j
 
 abbrev μ-loop : tie.MeasureT-loop
 μ-loop x buf₀ rest₀ j₀ buf rest j = j

@@ -1,5 +1,5 @@
 -- `put_field` meets its contract: the part of its buffer that `field_into` filled is put.
-use Rattle.report.proofs.Digits.{from-part}
+use Rattle.report.proofs.DigitsPrinted.{from-part}
 use borrow.Author.Needs.{needs}
 use Rattle.report.proofs.put_field.Statement.{statement}
 use Rattle.report.proofs.put_field.Tie as tie

@@ -21,11 +21,11 @@ use Rattle.numbers.proofs.Signed.{back-ok, to-unsigned, to-unsigned-is}
 use Rattle.methodology.specs.Text.{LF, bytes, same, fields, kindOf, also, badBytes, numbersAfter, accountOf}
 use Rattle.methodology.specs.Lines.{indexOf, has, before, lineRead}
 use Rattle.fields.specs.Fields.{valueOf, RowIs}
-use Rattle.fields.proofs.Rows.{row-none, row-some}
+use Rattle.fields.proofs.RowRead.{row-none, row-some}
 use Rattle.lines.specs.Forms.{valuesOf, rowAfter, lineRow, isNegative, naturals, signsWrong, accountFrom, AccountIs}
-use Rattle.lines.proofs.Rows.{some-none}
-use Rattle.lines.proofs.Values.{foreign}
-use Rattle.lines.proofs.Forms.{numbers-row, account-row}
+use Rattle.lines.proofs.RowOfLine.{some-none}
+use Rattle.lines.proofs.Ascii.{foreign}
+use Rattle.lines.proofs.FormsAsRows.{numbers-row, account-row}
 use Rattle.lines.proofs.Words.{row-zero, row-read}
 
 -- ---- signs

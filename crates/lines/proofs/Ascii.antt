@@ -17,7 +17,7 @@ use Rattle.methodology.specs.Text.{isDigit, valueFrom, numberOf, below0, above0
 use Rattle.methodology.proofs.Splits.{split-first}
 use Rattle.fields.specs.Fields.{valueOf}
 use Rattle.lines.specs.Forms.{valuesOf}
-use Rattle.lines.proofs.Rows.{some-none, also-first, also-some}
+use Rattle.lines.proofs.RowOfLine.{some-none, also-first, also-some}
 
 -- ---- ASCII
 

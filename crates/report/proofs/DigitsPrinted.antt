@@ -28,21 +28,21 @@ stored buf j d h =
     let long : j < length (set buf j d) = omega (arith, length-set buf j d) in
     rw (drop-cons (set buf j d) j 0 long, getD-set-same buf j d 0 h, drop-set-lt (suc j) buf j d (omega arith), next)
 
-pub record Filled (x : ℕ) (buf : List ℕ) (rest j : ℕ) : Type 0 where
+pub record DigitsFilled (x : ℕ) (buf : List ℕ) (rest j : ℕ) : Type 0 where
   pub long : length buf ≡ 21
   pub least : 1 ≤ j
   pub most : j ≤ 20
   pub due : decimal x ≡ digits (j - 1) rest ++ drop (j + 1) buf
 
-pub filled-start : (x : ℕ) (buf : List ℕ) → length buf ≡ 21 → Filled x buf x 20
+pub filled-start : (x : ℕ) (buf : List ℕ) → length buf ≡ 21 → DigitsFilled x buf x 20
 filled-start x buf h =
     record { long = h; least = omega arith; most = omega arith; due = let e : length buf ≤ 21 = omega arith in rw (drop-of-length-le buf e, append-nil) }
 
-module _ {x : ℕ} {buf : List ℕ} {rest j : ℕ} (f : Filled x buf rest j) where
+module _ {x : ℕ} {buf : List ℕ} {rest j : ℕ} (f : DigitsFilled x buf rest j) where
   abbrev d : ℕ
   d = 48 + rest % 10
 
-  pub filled-more : 1 < j → 9 < rest → Filled x (set buf j d) (rest / 10) (j - 1)
+  pub filled-more : 1 < j → 9 < rest → DigitsFilled x (set buf j d) (rest / 10) (j - 1)
   filled-more h k =
       let a : j - 1 ≡ suc (j - 1 - 1) = omega arith in
       let b : j - 1 + 1 ≡ j = omega arith in

@@ -49,18 +49,18 @@ behind-also zs z (some l) = ap some (sym (append-assoc zs (z ∷ []) l))
 
 -- a reader of n fields from index p on that is at index `at`, with j values in row
 module _ (text : List ℕ) (p kind n : ℕ) where
-  pub record Rows (row : List ℤ) (at j : ℕ) : Type 0 where
+  pub record RowSoFar (row : List ℤ) (at j : ℕ) : Type 0 where
     pub within : at ≤ length text
     pub few : j ≤ n
     pub long : length row ≡ n
     pub reads : rowAt kind 0 n (drop p text) ≡ behind (take j row) (rowAt kind j (n - j) (drop at text))
     pub spans : p + span n (drop p text) ≡ at + span (n - j) (drop at text)
 
-  pub rows-start : (row : List ℤ) → p ≤ length text → length row ≡ n → Rows row p 0
+  pub rows-start : (row : List ℤ) → p ≤ length text → length row ≡ n → RowSoFar row p 0
   rows-start row h l =
       record { within = h; few = omega arith; long = l; reads = rw sub-zero (behind-none (rowAt kind 0 n (drop p text))); spans = rw sub-zero }
 
-  module _ (row : List ℤ) (at j : ℕ) (s : Rows row at j) where
+  module _ (row : List ℤ) (at j : ℕ) (s : RowSoFar row at j) where
     abbrev here : List ℕ
     here = drop at text
 
@@ -75,7 +75,7 @@ module _ (text : List ℕ) (p kind n : ℕ) where
     rows-bad h e = s .reads ∙ ap (λ (m : ℕ). behind (take j row) (rowAt kind j m here)) (left-is h) ∙ rw e
 
     pub rows-on : (row′ : List ℤ) (r : ℕ) (z : ℤ) → j < n → valueAt (eqb j kind) (due (n - j - 1)) here ≡ some z → r ≡ at + size here + 1
-        → row′ ≡ set row j z → r ≤ length text → Rows row′ r (j + 1)
+        → row′ ≡ set row j z → r ≤ length text → RowSoFar row′ r (j + 1)
     unfolding rowAt span
     rows-on row′ r z h e k m w =
         let b : past here ≡ drop r text = past-is ∙ ap (λ (i : ℕ). drop i text) (sym k) in

@@ -19,8 +19,8 @@ use Rattle.methodology.specs.Text.{LF, tab, bytes, same, fields, valueFrom, num
 use Rattle.methodology.specs.Lines.{has, before, lineRead}
 use Rattle.fields.specs.Fields.{valueOf}
 use Rattle.lines.specs.Forms.{valuesOf, rowAfter, lineRow, isNegative, naturals, accountIn, accountFrom}
-use Rattle.lines.proofs.Rows.{also-none}
-use Rattle.lines.proofs.Values.{foreign, any-split}
+use Rattle.lines.proofs.RowOfLine.{also-none}
+use Rattle.lines.proofs.Ascii.{foreign, any-split}
 
 -- ---- one field
 
