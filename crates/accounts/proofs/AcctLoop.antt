@@ -80,7 +80,8 @@ module _ {text : List ℕ} {p count k j q : ℕ} {columns : List ℕ} {npvs : Li
     pub reading-bad : r ≡ 0 → AccountsMeet text p count k columns npvs (Stopped j)
     unfolding AccountsMeet
     reading-bad z =
-        (h, λ g terms at e. b .due g terms at e h ∙ line-bad g _ at count (at + 1 + j) text p q (omega (arith, b .far)) (read-by g e ∙ account-zero _ _ row r i (omega arith) z))
+        let none-read = account-zero _ _ row r i (omega arith) z in
+        (h, λ g terms at e. b .due g terms at e h ∙ line-bad g _ at count (at + 1 + j) text p q (omega (arith, b .far)) (read-by g e ∙ none-read))
 
     module _ (z : r ≡ 0 → ⊥) where
       pub next-is : q + indexOf LF (drop q text) + 1 ≡ r
@@ -111,10 +112,14 @@ module _ {text : List ℕ} {p count k j q : ℕ} {columns : List ℕ} {npvs : Li
               few = omega arith;
               due = λ g terms at e y.
                   let t : at + 1 + j + 1 ≡ at + 1 + (j + 1) = omega arith in
-                  let lined = line-more g _ at count (at + 1 + j) text p q (omega (arith, b .far)) (accountIn row) (read-by g e ∙ read) within (day terms) (day-more terms s) (omega (arith, many terms)) in
+                  let lined =
+                  line-more g _ at count (at + 1 + j) text p q (omega (arith, b .far)) (accountIn row) (read-by g e ∙ read) within
+                  (day terms) (day-more terms s) (omega (arith, many terms)) in
                   b .due g terms at e h ∙ rw (next-is, t) at lined;
               done = λ g terms at e y.
                   let t : at + 1 + j + 1 ≡ at + 1 + count = omega arith in
-                  let lined = line-last g _ at count (at + 1 + j) text p q (omega (arith, b .far)) (accountIn row) (read-by g e ∙ read) within (day terms) (day-more terms s) (many terms ∙ y) in
+                  let lined =
+                  line-last g _ at count (at + 1 + j) text p q (omega (arith, b .far)) (accountIn row) (read-by g e ∙ read) within
+                  (day terms) (day-more terms s) (many terms ∙ y) in
                   b .due g terms at e h ∙ rw (next-is, t) at lined;
             }

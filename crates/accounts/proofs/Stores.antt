@@ -32,8 +32,11 @@ npvs-stored j k row npvs part l h q =
     let a = j * (k + 1) in
     let c = a + (k + 1) - a in
     let long : length (take a npvs) ≡ a = length-take-le a npvs (omega arith) in
-    let all : length (take a npvs ++ npvsOf row) ≡ (j + 1) * (k + 1) = omega (arith, length-append (take a npvs) (npvsOf row), long, length-drop 6 row, add-mul j 1 (k + 1), one-mul (k + 1)) in
-    rw q (ap (take ((j + 1) * (k + 1))) (sym (append-assoc (take a npvs) (npvsOf row) (postOf a c npvs))) ∙ take-at (take a npvs ++ npvsOf row) (postOf a c npvs) ((j + 1) * (k + 1)) all)
+    let front = take a npvs ++ npvsOf row in
+    let rest = postOf a c npvs in
+    let all : length front ≡ (j + 1) * (k + 1) =
+    omega (arith, length-append (take a npvs) (npvsOf row), long, length-drop 6 row, add-mul j 1 (k + 1), one-mul (k + 1)) in
+    rw q (ap (take ((j + 1) * (k + 1))) (sym (append-assoc (take a npvs) (npvsOf row) rest)) ∙ take-at front rest ((j + 1) * (k + 1)) all)
 
 -- what stands in the columns and among the NPVs after the store
 pub record Stored (j k : ℕ) (row : List ℤ) (columns : List ℕ) (npvs : List ℤ) (columns′ : List ℕ) (npvs′ : List ℤ) : Type 0 where
@@ -69,6 +72,7 @@ unfolding withAccount
 day-more terms {j} {k} {row} {cs} {vs} s =
     let room : (c : ℕ) → c ≤ 4 → j < length (columnAt c cs) = λ c h. omega (arith, s .inside, column-length c cs h (s .inside .1)) in
     let (members, numbers, kinds, margins, extras) = s .columns-are in
+    let more = headings-more (columnAt 0 cs) (columnAt 1 cs) (columnAt 2 cs) j in
     rw (
       members,
       numbers,
@@ -76,7 +80,7 @@ day-more terms {j} {k} {row} {cs} {vs} s =
       margins,
       extras,
       s .npvs-are,
-      headings-more (columnAt 0 cs) (columnAt 1 cs) (columnAt 2 cs) j (getD row 0 (pos 0) ⁺) (getD row 1 (pos 0) ⁺) (getD row 2 (pos 0) ⁺) (room 0 (omega arith)) (room 1 (omega arith)) (room 2 (omega arith)),
+      more (getD row 0 (pos 0) ⁺) (getD row 1 (pos 0) ⁺) (getD row 2 (pos 0) ⁺) (room 0 (omega arith)) (room 1 (omega arith)) (room 2 (omega arith)),
       take-more (columnAt 3 cs) j (getD row 4 (pos 0) ⁺) (room 3 (omega arith)),
       take-more (columnAt 4 cs) j (getD row 5 (pos 0) ⁺) (room 4 (omega arith)),
     )

@@ -24,7 +24,8 @@ column-part c count columns h =
     rw z (sym (take-take count 256 (drop (256 * c) columns) h))
 
 pub day-brought : (terms : DayTerms) (count k : ℕ) (columns : List ℕ) (npvs : List ℤ) (hs : List Heading) (margins extras : List ℕ) → count ≤ 256
-    → hs ≡ packed (columnAt 0 columns) (columnAt 1 columns) (columnAt 2 columns) → margins ≡ take count (columnAt 3 columns) → extras ≡ take count (columnAt 4 columns)
+    → hs ≡ packed (columnAt 0 columns) (columnAt 1 columns) (columnAt 2 columns)
+    → margins ≡ take count (columnAt 3 columns) → extras ≡ take count (columnAt 4 columns)
     → dayBrought terms (take count hs) (take (count * (k + 1)) npvs) margins extras ≡ dayRead terms count k columns npvs
 unfolding packed
 day-brought terms count k columns npvs hs margins extras h e m x =

@@ -1,7 +1,7 @@
 -- A day's turn and the days after it, from what the functions that it calls have told: each law is one way out of a function.
-use mathlib.Core.Path.{_≡_, refl, sym, ap, subst, _∙_}
+use mathlib.Core.Path.{_≡_, refl, sym, subst, _∙_}
 use mathlib.Core.Bool.{Bool, true, false, true≢false, cond}
-use mathlib.Core.List.{List, [], _++_, map, append-nil}
+use mathlib.Core.List.{List, [], _++_, append-nil}
 use Prim.Native.Nat.{ℕ, _+_, _-_, _*_, _≤_, _<_}
 use native.Mathlib.Nat.{mul-le-mul}
 use native.Mathlib.Omega.{arith}
@@ -64,7 +64,8 @@ module _ (text : List ℕ) (p count k : ℕ) (columns : List ℕ) (npvs : List �
     unfolding AccountsMeet
     stopped-few = told-stopped .0
 
-    pub stopped-due : (g : Register) (period : Period) (n : ℕ) (terms : DayTerms) (line : ℕ) → InStep g period n k → accountsDue text p g terms line count ≡ refusedLine 9 (line + 1 + j)
+    pub stopped-due : (g : Register) (period : Period) (n : ℕ) (terms : DayTerms) (line : ℕ) → InStep g period n k
+        → accountsDue text p g terms line count ≡ refusedLine 9 (line + 1 + j)
     unfolding AccountsMeet
     stopped-due g period n terms line h = told-stopped .1 g terms line (h .scenarios)
 
@@ -126,7 +127,8 @@ pub over-stands : (text : List ℕ) (least : ℕ) (t : Turn) → t .over ≡ tru
 unfolding Stands
 over-stands text least t e = λ o. absurd (true≢false (sym e ∙ o))
 
-pub stands-at : (text : List ℕ) (least next line : ℕ) (t : Turn) → t .to .next ≡ next → t .to .line ≡ line → least ≤ next → next ≤ length text → line ≤ next + 1 → Stands text least t
+pub stands-at : (text : List ℕ) (least next line : ℕ) (t : Turn) → t .to .next ≡ next → t .to .line ≡ line
+    → least ≤ next → next ≤ length text → line ≤ next + 1 → Stands text least t
 unfolding Stands
 stands-at text least next line t e f a b c = λ o. (omega arith, omega arith, omega arith)
 
@@ -134,6 +136,7 @@ pub stands-before : (text : List ℕ) (least less : ℕ) (t : Turn) → less ≤
 unfolding Stands
 stands-before text least less t h s = λ o. let (a, b, c) = s o in (omega arith, b, c)
 
-pub on-stands : (text : List ℕ) (least : ℕ) (t : Turn) → Stands text least t → t .over ≡ false → (least ≤ t .to .next) × (t .to .next ≤ length text) × (t .to .line ≤ t .to .next + 1)
+pub on-stands : (text : List ℕ) (least : ℕ) (t : Turn) → Stands text least t → t .over ≡ false
+    → (least ≤ t .to .next) × (t .to .next ≤ length text) × (t .to .line ≤ t .to .next + 1)
 unfolding Stands
 on-stands text least t s o = s o

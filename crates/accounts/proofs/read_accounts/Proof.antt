@@ -74,13 +74,16 @@ module _ (c : tie.After-account-at Inv-loop μ-loop) where
   long : length row ≡ k + 6
   long = length-take-le (k + 6) array (omega (arith, array-length, start .pre .1 .0))
 
+  abbrev found : List ℤ → Type 0
+  found x = AccountIs (lineRead (accountOf k) (drop at text)) (at + indexOf LF (drop at text) + 1) x r
+
   abbrev reading : ReadSoFar text (start .args .p) (start .args .count) k j at (here .loop .columns) npvs
   reading = here .loop .inv .3
 
-  told : AccountIs (lineRead (accountOf k) (drop at text)) (at + indexOf LF (drop at text) + 1) row r
+  told : found row
   told =
       let z : length (take (k + 6) (here .loop .row)) - 6 ≡ k = omega (arith, held) in
-      subst (λ (x : List ℤ). AccountIs (lineRead (accountOf k) (drop at text)) (at + indexOf LF (drop at text) + 1) x r) (sym cut) (rw z at (c .account-at .ensures .0))
+      subst found (sym cut) (rw z at (c .account-at .ensures .0))
 
   -- the place of its NPVs
   inside : j * (k + 1) + (k + 1) ≤ length npvs

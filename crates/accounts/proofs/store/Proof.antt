@@ -107,7 +107,8 @@ returns c =
     let a2 = second a3 in
     let a1 = first a2 in
     let s = start a1 in
-    all-columns (s .args .columns .now) _ _ _ _ _ (s .args .row .now) (s .args .j) (s .pre .1 .0) (a1 .store-one .ensures) (a2 .store-one2 .ensures) (a3 .store-one3 .ensures) (a4 .store-one4 .ensures) (a5 .store-one5 .ensures)
+    all-columns (s .args .columns .now) _ _ _ _ _ (s .args .row .now) (s .args .j) (s .pre .1 .0)
+    (a1 .store-one .ensures) (a2 .store-one2 .ensures) (a3 .store-one3 .ensures) (a4 .store-one4 .ensures) (a5 .store-one5 .ensures)
 
 pub store-spec : {M : Type 1} → statement M
 store-spec =

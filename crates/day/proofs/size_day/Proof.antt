@@ -78,7 +78,8 @@ returns c =
     let columns = a .columns .now in
     let few = s .pre .1 in
     same-day
-    (day-brought (a .terms) (a .count) (a .k) columns (a .npvs .now) _ _ _ few (packed .pack .ensures) (column-part 3 (a .count) columns few) (column-part 4 (a .count) columns few))
+    (day-brought (a .terms) (a .count) (a .k) columns (a .npvs .now) _ _ _ few (packed .pack .ensures)
+    (column-part 3 (a .count) columns few) (column-part 4 (a .count) columns few))
     (c .before .before .day-of .ensures)
 
 pub size-day-spec : {M : Type 1} → statement M

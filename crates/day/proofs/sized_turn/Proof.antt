@@ -53,7 +53,9 @@ say-requires : tie.Need-say-requires
 say-requires c κs =
     let a = c .before .before .before .before in
     let s = start a in
-    ((s .pre .0 .1, figures-wide (figures a) _ _ (long a) _ (day-width (s .args .count) (n a) (outcome a))), omega (arith, s .pre .0, day-line (s .args .count) (s .args .from .line) (outcome a)))
+    let wide = day-width (s .args .count) (n a) (outcome a) in
+    let named = day-line (s .args .count) (s .args .from .line) (outcome a) in
+    ((s .pre .0 .1, figures-wide (figures a) _ _ (long a) _ wide), omega (arith, s .pre .0, named))
 
 add-t23 : tie.Need-add-t23
 add-t23 c = search needs
@@ -74,9 +76,15 @@ returns c =
     let args = s .args in
     let w = c .before .before .before .before .say in
     let said-of : List ℕ → List ℕ = said (a .size-day .result .outcome) (args .terms .number) (args .from .line) (n a) in
-    let put = subst (λ (l : List ℕ). Put (args .out .now) (args .from .at) (said-of l) (w .last .1 .1 .1 .1 .1 .0) (w .result)) (take-at (figures a) _ _ (long a)) (w .ensures) in
-    let room = sym (a .size-day .kept .1 .1 .1 .1 .1 .1 .0) ∙ long a in
-    ((λ g text h. rw (c .is-over .ensures) (said-turn text (n a) (args .k) g (args .from .period) h _ (args .from .line) (args .count) (args .from .next) _ _ _ (a .size-day .ensures) room _ _ _ _ put)), (refl, refl))
+    let out = w .last .1 .1 .1 .1 .1 .0 in
+    let put = subst (λ (l : List ℕ). Put (args .out .now) (args .from .at) (said-of l) out (w .result)) (take-at (figures a) _ _ (long a)) (w .ensures) in
+    let room = sym (a .size-day .kept .1 .1 .1 .1 .1 .1 .0) ∙ long a in (
+      (λ g text h.
+          rw (c .is-over .ensures)
+          (said-turn text (n a) (args .k) g (args .from .period) h _ (args .from .line) (args .count) (args .from .next)
+          _ _ _ (a .size-day .ensures) room _ _ _ _ put)),
+      (refl, refl),
+    )
 
 pub sized-turn-spec : {M : Type 1} → statement M
 sized-turn-spec =

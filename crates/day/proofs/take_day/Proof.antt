@@ -46,7 +46,8 @@ sized-turn-requires c κs =
     let kept = read .read-accounts .kept .1 .1 .1 .1 in
     let (long, room) = s .pre .0 in
     let (least, most, members, scenario, scenarios) = s .pre .1 .1 in
-    ((most, members, scenarios, omega (arith, s .pre .1 .0, s .good .0)), (kept .0 ∙ long, npvs-fit (s .args .count) (s .args .k) _ most scenarios (kept .1 .0 ∙ room)))
+    let fit = npvs-fit (s .args .count) (s .args .k) _ most scenarios (kept .1 .0 ∙ room) in
+    ((most, members, scenarios, omega (arith, s .pre .1 .0, s .good .0)), (kept .0 ∙ long, fit))
 
 same-length : tie.Need-same-length
 same-length c = search needs

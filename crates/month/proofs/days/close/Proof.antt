@@ -27,7 +27,8 @@ returns c = λ g k h.
     let called = c .before .before .before .before .before .before .before .closing in
     let s = c .before .before .before .before .before .before .before .before .before .before .before .before in
     let a = s .args in
-    rw (closing-said (a .n) k g (a .from .period) h (a .from .line) (a .figures .now) (called .result) _ (called .ensures) (s .pre .1)) (c .before .before .say .ensures)
+    let due = closing-said (a .n) k g (a .from .period) h (a .from .line) (a .figures .now) (called .result) _ (called .ensures) (s .pre .1) in
+    rw due (c .before .before .say .ensures)
 
 pub close-spec : {M : Type 1} → statement M
 close-spec = tie.close (tie.spec closing-requires say-requires same-length same-length-2 returns)

@@ -23,7 +23,8 @@ same-length c = search needs
 returns : tie.Need-returns
 returns c = λ g k h.
     let a = c .before .before .before .before .before .before .before .before .before .args in
-    same-put (bytes-after (a .text .now) (a .from .next + 4) (a .from .line) g (c .before .before .before .before .before .if1 .taken)) (c .before .before .put-refused .ensures)
+    let more = c .before .before .before .before .before .if1 .taken in
+    same-put (bytes-after (a .text .now) (a .from .next + 4) (a .from .line) g more) (c .before .before .put-refused .ensures)
 
 mul-room : tie.Need-mul-room
 mul-room c = search needs
@@ -43,7 +44,8 @@ same-length-2 c = search needs
 returns-2 : tie.Need-returns-2
 returns-2 c = λ g k h.
     let a = c .before .before .before .before .before .before .before .before .before .before .args in
-    same-put (closing-due (a .text .now) (a .from .next + 4) (a .from .line) g (c .before .before .before .before .before .before .if1 .left)) (c .before .before .before .close .ensures g k h)
+    let none = c .before .before .before .before .before .before .if1 .left in
+    same-put (closing-due (a .text .now) (a .from .next + 4) (a .from .line) g none) (c .before .before .before .close .ensures g k h)
 
 pub end-at-spec : {M : Type 1} → statement M
 end-at-spec =

@@ -98,8 +98,12 @@ returns-2 : tie.Need-returns-2
 returns-2 c =
     let l = c .before .before .before .before .before .before in
     let r = c .before .before .refused in
-    let bad = c .before .before .before .before .if2 .taken in
-    ((λ g h. ended (r .ensures .0) (same-put (day-bad (text l) (p l) (line l) g (no-end l) (row l) _ (found l) bad) (r .ensures .1))), over-stands _ _ _ (r .ensures .0))
+    let bad = c .before .before .before .before .if2 .taken in (
+      (λ g h.
+          let due = day-bad (text l) (p l) (line l) g (no-end l) (row l) _ (found l) bad in
+          ended (r .ensures .0) (same-put due (r .ensures .1))),
+      over-stands _ _ _ (r .ensures .0),
+    )
 
 array-read-count : tie.Need-array-read-count
 array-read-count c = search needs
@@ -122,7 +126,9 @@ returns-3 c =
     let r = c .before .before .refused2 in
     let beyond = sym (c .before .before .before .before .before .count-outside .ensures) ∙ c .before .before .before .before .if3 .taken in
     let good = c .before .before .before .before .before .before .if2 .left in (
-      (λ g h. ended (r .ensures .0) (same-put (day-outside (text l) (p l) (line l) g (no-end l) (row l) _ (found l) good (terms l) (count l) refl refl beyond) (r .ensures .1))),
+      (λ g h.
+          let due = day-outside (text l) (p l) (line l) g (no-end l) (row l) _ (found l) good (terms l) (count l) refl refl beyond in
+          ended (r .ensures .0) (same-put due (r .ensures .1))),
       over-stands _ _ _ (r .ensures .0),
     )
 

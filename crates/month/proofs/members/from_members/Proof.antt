@@ -120,7 +120,10 @@ returns-2 c =
     same-put (told l .2) (opening-ends (text l) (next l) _ _ (opened a) _ _ _ (c .before .before .before .before .say .ensures) over)
 
 add-t33 : tie.Need-add-t33
-add-t33 c = let h = c .before .before .before .before .before .before .before .before .before .before .before .before .before .before .before .before .before .before .before .before .pre .1 .1 in search needs
+add-t33 c =
+    let s = start (read (lines (c .before .before .before .before .before .before .before .before .before))) in
+    let h = s .pre .1 .1 in
+    search needs
 
 days-requires : tie.Need-days-requires
 days-requires c κs =
@@ -136,7 +139,9 @@ returns-3 c =
     let a = c .before .before .before .before .before .before .before .before .before .before .before .before .before in
     let l = lines a in
     let on = sym (c .before .before .before .before .before .before .is-over .ensures) ∙ c .before .before .before .before .before .if1 .left in
-    same-put (told l .2) (opening-goes-on (text l) (next l) _ _ (opened a) _ _ _ (c .before .before .before .before .before .before .before .before .before .say .ensures) _ _ on (c .before .before .days .ensures))
+    let said = c .before .before .before .before .before .before .before .before .before .say .ensures in
+    let after = opening-goes-on (text l) (next l) _ _ (opened a) _ _ _ said _ _ on (c .before .before .days .ensures) in
+    same-put (told l .2) after
 
 pub from-members-spec : {M : Type 1} → statement M
 from-members-spec =
