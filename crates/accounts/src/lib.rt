@@ -14,12 +14,12 @@ ghost use Rattle.accounts.specs.AcctLines.{RowStored, AccountsMeet};
 // "A day's acct lines hold at most 65,536 bytes with their LFs".
 const MOST_BYTES: usize = 65_536;
 
-// Number i of a row, which is not negative, into place j of a column.
-fn store_one(row: &[i64], i: usize, column: &mut [u64], j: usize)
-    requires { ⌜ (i < length (now row)) × (isNegative (getD (now row) i (pos 0)) ≡ false) × (j < length (now column)) ⌝ }
-    ensures { λ r. ⌜ now (column .exit) ≡ set (now (column .entry)) j (getD (now (row .entry)) i (pos 0) ⁺) ⌝ }
+// Number i of a row, which is not negative, into place j of the columns, counted over all five.
+fn store_one(row: &[i64], i: usize, columns: &mut [u64], j: usize)
+    requires { ⌜ (i < length (now row)) × (isNegative (getD (now row) i (pos 0)) ≡ false) × (j < length (now columns)) ⌝ }
+    ensures { λ r. ⌜ now (columns .exit) ≡ set (now (columns .entry)) j (getD (now (row .entry)) i (pos 0) ⁺) ⌝ }
 {
-    column[j] = row[i] as u64;
+    columns[j] = row[i] as u64;
 }
 
 // An account's row into place j of each column, all but its NPVs.

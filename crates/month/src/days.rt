@@ -89,7 +89,7 @@ fn turn_at(
     take_day(text, from, terms, count as usize, n, k, columns, npvs, out)
 }
 
-// The report from there on: days, and the end.
+// The report from `from` on: days, and the end.
 fn days_in(
     text: &[u8],
     from: Progress,
