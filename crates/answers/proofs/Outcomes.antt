@@ -14,7 +14,7 @@ use Rattle.methodology.specs.declared.Status.{Status}
 use Rattle.methodology.specs.declared.Opening.{Opening}
 use Rattle.methodology.specs.Account.{DayInput, accounts, nobody}
 use Rattle.methodology.specs.Day.{total}
-use Rattle.methodology.specs.Refusals.{row_when_else_, row_at_when_else_, rows-of_else_, isOpen, badOpening, badInput, badOutput, badDayNumber, firstBadHeading, lastMissing, badAmount, openingRefusal, accountRows, dayRows, dayRefusal, closingRefusal}
+use Rattle.methodology.specs.Refusals.{row_when_else_, row_at_when_else_, rows-of_else_, isOpen, badOpening, badInput, badOutput, badDayNumber, firstBadHeading, lastMissing, badAmount, openingRefusal, accountRows, dayRows, beforeFigures, dayRefusal, closingRefusal}
 use Rattle.methodology.specs.Register.{accepted, answerBy}
 use Rattle.methodology.proofs.Passed.{by-test}
 use Rattle.validation.proofs.Headings.{bad-heading-le}
@@ -24,7 +24,7 @@ use Rattle.period.specs.declared.Outcome.the-variants.{Opened, Sized, Closed, R
 use Rattle.period.specs.declared.Period.{Period}
 use Rattle.period.specs.declared.Reply.{Reply}
 use Rattle.period.specs.Reading.{answerOf}
-use Rattle.period.specs.Calls.{held, statusOf, openingRow, OpeningMeets, dayRow, DayMeets, closingRow, ClosingMeets}
+use Rattle.period.specs.Calls.{heldBy, statusOf, openingRow, OpeningMeets, dayRow, DayMeets, closingRow, ClosingMeets}
 use Rattle.answers.specs.Said.{widthSaid, lineSaid}
 use Rattle.answers.proofs.RefusalRows.{is-clear, is-row-at}
 
@@ -92,15 +92,15 @@ account-rows-le o d =
     (λ e. by-test (IndexLe count) (ltb bad6 count) (RowAt 6 bad6) Clear (λ e. omega (arith, first-le badAmount (accounts (o .k) d), accounts-long (o .k) d)) (λ e. tt))
 
 index-le : (s : Status) (o : Opening) (last : ℕ) (d : DayInput) (room : ℕ) → IndexLe (length (d .headings)) (dayRefusal s o last d room)
-unfolding dayRefusal dayRows row_when_else_
+unfolding dayRefusal beforeFigures dayRows row_when_else_
 index-le s o last d room =
     let few = IndexLe (length (d .headings)) in
-    by-test few (not (isOpen s)) (Row 2) _ (λ e. tt)
+    rows-le (length (d .headings)) (beforeFigures s o last d room) _
+    (by-test few (not (isOpen s)) (Row 2) _ (λ e. tt)
     (λ e. by-test few (badOutput o room) (Row 4) _ (λ e. tt)
-    (λ e. rows-le (length (d .headings)) (dayRows o last d) _
-    (by-test few (badInput o d) (Row 4) _ (λ e. tt)
-    (λ e. by-test few (badDayNumber last (d .terms .number)) (Row 3) _ (λ e. tt) (λ e. account-rows-le o d)))
-    (by-test few (eqb (total o (accounts (o .k) d)) 0) (Row 7) Clear (λ e. tt) (λ e. tt))))
+    (λ e. by-test few (badInput o d) (Row 4) _ (λ e. tt)
+    (λ e. by-test few (badDayNumber last (d .terms .number)) (Row 3) _ (λ e. tt) (λ e. account-rows-le o d)))))
+    (by-test few (eqb (total o (accounts (o .k) d)) 0) (Row 7) Clear (λ e. tt) (λ e. tt))
 
 pub day-outcome : {p : Period} {d : DayInput} {before after : List ℕ} {r : Reply} → DayMeets p d before r after → OfDay (length (d .headings)) (r .outcome)
 unfolding dayRow
@@ -111,7 +111,7 @@ day-outcome {p} {d} {before} {r = r} m = by (r .outcome) _ _ (m .answer)
     by (Refused number) a b e = unsized number
     by (RefusedAt number index) a b e =
         let met : dayRow p d (length before) ≡ RowAt number index = is-row-at _ _ _ _ (sym e) in
-        unsized-at number index (rw met at (index-le (statusOf p) (held p) (p .accrued .last) d (length before)))
+        unsized-at number index (rw met at (index-le (statusOf p) (heldBy p) (p .accrued .last) d (length before)))
     by Opened a b e = absurd (let z : 2 ≡ 0 = same-count (dayRow p d (length before)) (a ∷ b ∷ []) [] e in omega arith)
     by (Closed days highest funds) a b e = absurd (let z : 2 ≡ 3 = same-count (dayRow p d (length before)) (a ∷ b ∷ []) (days ∷ highest ∷ funds ∷ []) e in omega arith)
 
@@ -152,7 +152,7 @@ closing-outcome {p} {before} {r = r} m = by (r .outcome) _ _ _ (m .answer)
     by (Refused number) a b c e = unclosed number
     by Opened a b c e = absurd (let z : 3 ≡ 0 = same-count (closingRow p (length before)) (a ∷ b ∷ c ∷ []) [] e in omega arith)
     by (Sized total max) a b c e = absurd (let z : 3 ≡ 2 = same-count (closingRow p (length before)) (a ∷ b ∷ c ∷ []) (total ∷ max ∷ []) e in omega arith)
-    by (RefusedAt number index) a b c e = absurd (closing-no-index (statusOf p) (held p) (p .accrued .days) (length before) number index (is-row-at _ _ _ _ (sym e)))
+    by (RefusedAt number index) a b c e = absurd (closing-no-index (statusOf p) (heldBy p) (p .accrued .days) (length before) number index (is-row-at _ _ _ _ (sym e)))
 
 pub closing-line : {o : Outcome} (line : ℕ) → OfClosing o → lineSaid o line ≡ line
 unfolding lineSaid

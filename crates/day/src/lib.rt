@@ -20,8 +20,8 @@ ghost use Rattle.accounts.specs.AcctLines.{dayRead, accountsDue, dayDue};
 ghost use Rattle.answers.specs.InStep.{InStep};
 ghost use Rattle.day.specs.Turns.{endedAt, TurnMeets, Stands};
 
-// How far a report has come: the next line is line `line`, at index `next` of the text, `at` is the index after what was printed, and the
-// calls so far have left the period.
+// How far a report has come: the text goes on at index `next`, `line` is the line there, or the day line while a day's accounts are read,
+// `at` is the index after what was printed, and the calls so far have left the period.
 pub struct Progress {
     pub next: usize,
     pub line: u64,

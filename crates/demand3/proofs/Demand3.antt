@@ -16,7 +16,8 @@ use contract.Notation.{connectives}
 use contract.Lifetimes.{Lfts}
 use contract.Running.{GhostRules, Running}
 use denote.Triple.Entry.{Args, Res}
-use denote.Triple.Clauses.{Ended, ClausesAt, Clauses, AtExit}
+use denote.Triple.Spec.{Meets as Meets-spec}
+use denote.Triple.Clauses.{Ended, ClausesAt, Clauses, AtExit, closing as closing-of}
 use denote.Ref.{now}
 use lib.ListN.{take}
 use Rattle.methodology.specs.declared.Refusal.the-variants.{Clear}
@@ -29,11 +30,6 @@ use Rattle.period.proofs.Period.opening as opening-fn
 use Rattle.period.proofs.Period.day as day-fn
 use Rattle.period.proofs.Period.day_of as day-of-fn
 use Rattle.period.proofs.Period.closing as closing-fn
-use Rattle.period.proofs.Period.fresh.Statement as fresh-stated
-use Rattle.period.proofs.Period.opening.Statement as opening-stated
-use Rattle.period.proofs.Period.day.Statement as day-stated
-use Rattle.period.proofs.Period.day_of.Statement as day-of-stated
-use Rattle.period.proofs.Period.closing.Statement as closing-stated
 use Rattle.period.proofs.Period.fresh.Symbol as fresh-code
 use Rattle.period.proofs.Period.opening.Symbol as opening-code
 use Rattle.period.proofs.Period.day.Symbol as day-code
@@ -54,33 +50,32 @@ use Rattle.demand3.proofs.Returns.{Returns, returns}
 
 -- ---- the compiled functions
 
--- A compiled function, as the toolchain has it from the code: its signature, with what is known of its parameters at exit; its clauses; its
--- routine; and the statement that the routine meets the clauses.
+-- A compiled function, as the toolchain has it from the code: its signature, with what is known of its parameters at exit; its clauses; and
+-- its routine.
 pub record Compiled : Type 3 where
   pub ended : Ended
   pub clauses : {M : Type 1} (𝓤 : URA M) → Heap 𝓤 → Atoms 𝓤 → (Memory → SProp 𝓤) → (Routine → Fun 𝓤) → Clauses 𝓤 ended
   pub routine : Routine
-  pub statement : Type 1 → Type 2
 
 -- the one that makes the first period
 abbrev pub fresh : Compiled
-fresh = record { ended = fresh-fn.ended; clauses = fresh-fn.clauses; routine = fresh-code.routine; statement = fresh-stated.statement }
+fresh = record { ended = fresh-fn.ended; clauses = fresh-fn.clauses; routine = fresh-code.routine }
 
 -- those that are called on a period
-pub data Function : Type 0 where
-  opening : Function
-  day : Function
-  day-of : Function
-  closing : Function
+pub data Method : Type 0 where
+  opening : Method
+  day : Method
+  day-of : Method
+  closing : Method
 
-abbrev pub compiled : Function → Compiled
+abbrev pub compiled : Method → Compiled
 compiled opening =
-    record { ended = opening-fn.ended; clauses = opening-fn.clauses; routine = opening-code.routine; statement = opening-stated.statement }
-compiled day = record { ended = day-fn.ended; clauses = day-fn.clauses; routine = day-code.routine; statement = day-stated.statement }
+    record { ended = opening-fn.ended; clauses = opening-fn.clauses; routine = opening-code.routine }
+compiled day = record { ended = day-fn.ended; clauses = day-fn.clauses; routine = day-code.routine }
 compiled day-of =
-    record { ended = day-of-fn.ended; clauses = day-of-fn.clauses; routine = day-of-code.routine; statement = day-of-stated.statement }
+    record { ended = day-of-fn.ended; clauses = day-of-fn.clauses; routine = day-of-code.routine }
 compiled closing =
-    record { ended = closing-fn.ended; clauses = closing-fn.clauses; routine = closing-code.routine; statement = closing-stated.statement }
+    record { ended = closing-fn.ended; clauses = closing-fn.clauses; routine = closing-code.routine }
 
 -- ---- their calls
 
@@ -92,7 +87,7 @@ pub record CallOf (f : Compiled) : Type 0 where
   pub exit : AtExit (f .ended) κs
 
 -- The period that a call was given, and the call in plain values: which of its arguments is which. `day_of` is a day call like `day`.
-abbrev pub inPlain : (f : Function) → CallOf (compiled f) → Period × Made
+abbrev pub inPlain : (f : Method) → CallOf (compiled f) → Period × Made
 inPlain opening c =
     let (self, (n, (k, (groups, _)))) = c .arguments in
     (self, record { asked = Asked.opening (brought n k (now groups)); reply = c .result; after = [] })
@@ -113,7 +108,7 @@ inPlain closing c =
 
 -- a call of any of them
 pub record Called : Type 0 where
-  pub function : Function
+  pub function : Method
   pub call : CallOf (compiled function)
 
 abbrev pub given : Called → Period
@@ -127,27 +122,29 @@ abbrev pub EnsuredBy : {M : Type 1} (𝓤 : URA M) {f : Compiled} (c : CallOf f)
 EnsuredBy 𝓤 c C = (ghost : C .ghost) × Ensured 𝓤 (C .ensures ghost (c .result) (c .exit))
 
 module _ {M : Type 1} (𝓤 : URA M) (H : Heap 𝓤) (A : Atoms 𝓤) (mem : Memory → SProp 𝓤) (run : Routine → Fun 𝓤) where
-  -- a call meets its own `ensures`, as generated from the code
-  abbrev pub Kept : {f : Compiled} → CallOf f → Type 1
-  Kept {f} c = EnsuredBy 𝓤 c (f .clauses 𝓤 H A mem run (c .κs) (c .arguments))
+  -- its own `ensures` holds of a call, as generated from the code
+  abbrev pub AsEnsured : {f : Compiled} → CallOf f → Type 1
+  AsEnsured {f} c = EnsuredBy 𝓤 c (f .clauses 𝓤 H A mem run (c .κs) (c .arguments))
 
   -- "where each gets the period that the one before returned": compiled calls from period p on, each of which meets its `ensures`
   abbrev pub Linked : Period → List Called → Type 1
   Linked p [] = Unit {1}
-  Linked p (c ∷ cs) = (given c ≡ p) × Kept (c .call) × Linked (madeOf c .reply .period) cs
+  Linked p (c ∷ cs) = (given c ≡ p) × AsEnsured (c .call) × Linked (madeOf c .reply .period) cs
 
   -- such a list from a period that `fresh` returned, by `fresh`'s own `ensures`
   pub record FromFresh (cs : List Called) : Type 1 where
     pub first : CallOf fresh
-    pub kept : Kept first
+    pub kept : AsEnsured first
     pub linked : Linked (first .result) cs
 
 -- ---- the claim
 
 -- What is claimed of a compiled function. `Says` is what its `ensures` says of a call.
 pub record Upholds (f : Compiled) (Says : CallOf f → Type 0) : Type 2 where
-  -- It meets its contract: it ends, on every call, without a panic, and does what its clauses say.
-  pub met : {M : Type 1} → f .statement M
+  -- It meets its contract: its routine ends, on every call, without a panic, and does what its clauses say.
+  pub met :
+      {M : Type 1} (𝓤 : URA M) (H : Heap 𝓤) (𝓜 : Model 𝓤 H) (𝓖 : GhostRules 𝓤 H) (𝓡 : Running 𝓤 H 𝓜)
+      → Meets-spec 𝓤 H (𝓖 .A) (f .ended .signature) (𝓡 .run (f .routine)) (closing-of 𝓤 H (𝓖 .A) (f .ended) (f .clauses 𝓤 H (𝓖 .A) (𝓜 .mem) (𝓡 .run)))
   -- So the machine, in every model of it: a call from a memory in which its arguments stand ends, with a result and exits of which its
   -- `ensures` holds.
   pub returns :
@@ -165,7 +162,7 @@ pub record Upholds (f : Compiled) (Says : CallOf f → Type 0) : Type 2 where
       }
 
 -- `Meets`, of a call in plain values
-abbrev pub Promised : (f : Function) → CallOf (compiled f) → Type 0
+abbrev pub Promised : (f : Method) → CallOf (compiled f) → Type 0
 Promised f c =
     let (p, m) = inPlain f c in
     Meets p (m .asked) (m .reply) (m .after)
@@ -184,7 +181,7 @@ pub record Demand3 : Type 2 where
   pub fresh-narrow : Narrow freshPeriod
   -- It is about the program: `fresh` ensures the fresh period, and a call `Meets`.
   pub fresh-upholds : Upholds fresh (λ c. c .result ≡ freshPeriod)
-  pub calls-uphold : (f : Function) → Upholds (compiled f) (Promised f)
+  pub calls-uphold : (f : Method) → Upholds (compiled f) (Promised f)
   -- So demand 3 holds of every list of compiled calls from `fresh` on, in every model of the logic; and where the last of them is an
   -- accepted closing, `Covers`.
   pub compiled-lists :
@@ -206,7 +203,7 @@ fresh-does =
       clauses = λ 𝓤 H A mem run κs a. refl;
     }
 
-upholds : (f : Function) → Upholds (compiled f) (Promised f)
+upholds : (f : Method) → Upholds (compiled f) (Promised f)
 upholds opening =
     record {
       met = opening-proved.met;
@@ -237,7 +234,7 @@ upholds closing =
 
 -- compiled calls are calls that were made
 module _ {M : Type 1} (𝓤 : URA M) (H : Heap 𝓤) (A : Atoms 𝓤) (mem : Memory → SProp 𝓤) (run : Routine → Fun 𝓤) where
-  kept-says : {f : Compiled} {Says : CallOf f → Type 0} → Upholds f Says → (c : CallOf f) → IsProp (Says c) → Kept 𝓤 H A mem run c → Says c
+  kept-says : {f : Compiled} {Says : CallOf f → Type 0} → Upholds f Says → (c : CallOf f) → IsProp (Says c) → AsEnsured 𝓤 H A mem run c → Says c
   kept-says {f} {Says} u c prop k =
       fact-holds 𝓤 (Says c) prop (subst (EnsuredBy 𝓤 c) (u .clauses 𝓤 H A mem run (c .κs) (c .arguments)) k .1)
 

@@ -17,15 +17,16 @@ use Rattle.numbers.proofs.Sums.{Σ-bound}
 use Rattle.methodology.specs.declared.Refusal.{Refusal}
 use Rattle.methodology.specs.declared.Refusal.the-variants.{Clear, Row, RowAt}
 use Rattle.methodology.specs.declared.Opening.{Opening}
-use Rattle.methodology.specs.Account.{DayInput, Account, members, accounts, nobody}
+use Rattle.methodology.specs.Account.{noOpening, DayInput, Account, members, accounts, nobody}
 use Rattle.methodology.specs.Member.{loss}
 use Rattle.methodology.specs.Day.{total, maxEul, scale, share, value, reserve, estimate, five, dailies}
 use Rattle.methodology.specs.Contribution.{charge, funded, unfunded, three}
-use Rattle.methodology.specs.Refusals.{row_when_else_, row_at_when_else_, rows-of_else_, isOpen, badOpening, openingRefusal, badInput, badOutput, badDayNumber, firstBadHeading, lastMissing, badAmount, accountRows, dayRows, dayRefusal, closingRefusal}
+use Rattle.methodology.specs.Refusals.{row_when_else_, row_at_when_else_, rows-of_else_, isOpen, badOpening, openingRefusal, badInput, badOutput, badDayNumber, firstBadHeading, lastMissing, badAmount, accountRows, dayRows, beforeFigures, dayRefusal, closingRefusal}
 use Rattle.methodology.specs.Register.{ifAccepted, accepted, answerBy}
 use Rattle.methodology.proofs.Passed.{passed, either}
 use Rattle.quotient.specs.Ranges.{greatestTotal}
 use Rattle.quotient.proofs.Bounds.{share-le, cents-le, raw-le}
+use Rattle.validation.specs.Slices.{inPlaces}
 use Rattle.validation.proofs.Headings.{bad-heading-le}
 use Rattle.validation.proofs.OpeningPasses.{opening-leaves}
 use Rattle.validation.proofs.DayPasses.{sized, accounts-long}
@@ -35,7 +36,7 @@ use Rattle.period.specs.declared.Outcome.{Outcome}
 use Rattle.period.specs.declared.Outcome.the-variants as says
 use Rattle.period.specs.declared.Reply.{Reply}
 use Rattle.period.specs.Reading.{answerOf}
-use Rattle.period.specs.Calls.{freshPeriod, held, inRange, statusOf, openingRow, openedPeriod, accountsBrought, dayRow, shareAt, sizedPeriod, closingRow, sumsHeld, chargeBy, closedPeriod}
+use Rattle.period.specs.Calls.{freshPeriod, heldBy, inRange, statusOf, openingRow, openedPeriod, accountsBrought, dayRow, shareAt, sizedPeriod, closingRow, sumsHeld, chargeBy, closedPeriod}
 use Rattle.fund.proofs.Dailies.{dailies-long}
 use Rattle.period.proofs.Ranges.{ranged}
 use Rattle.period.proofs.Sizing.{Admits, passes-all, total-few}
@@ -43,7 +44,7 @@ use Rattle.period.proofs.Closings.{Closable, closable, in-range}
 use Rattle.period.proofs.Reach.{sized-in-range}
 use Rattle.demand3.proofs.Covering.{three-wide}
 use Rattle.demand3.specs.Made.{Asked, Meets}
-use Rattle.demand3.specs.Demand3.{Fits64, numbersIn, NarrowAccrued, Narrow, Fits, CanBeMade}
+use Rattle.demand3.specs.Demand3.{Fits64, numbersIn, NarrowOpening, NarrowAccrued, Narrow, Fits, CanBeMade}
 
 -- ---- rows
 
@@ -94,12 +95,12 @@ day-rows-fit o last d =
     (at-fits 6 bad6 (ltb bad6 (length hs)) Clear (omega arith) (omega (arith, first-le badAmount accts, accounts-long (o .k) d)) tt)))
 
 day-row-fits : (p : Period) (d : DayInput) (room : ℕ) → RowFits (dayRow p d room)
-unfolding dayRow dayRefusal
+unfolding dayRow dayRefusal beforeFigures
 day-row-fits p d room =
-    when-fits 2 (not (isOpen (statusOf p))) _ (omega arith)
-    (λ e. when-fits 4 (badOutput (held p) room) _ (omega arith)
-    (λ e. rows-fit (dayRows (held p) (p .accrued .last) d) _ (day-rows-fit (held p) (p .accrued .last) d)
-    (when-fits 7 (eqb (total (held p) (accountsBrought p d)) 0) Clear (omega arith) (λ e. tt))))
+    rows-fit (beforeFigures (statusOf p) (heldBy p) (p .accrued .last) d room) _
+    (when-fits 2 (not (isOpen (statusOf p))) _ (omega arith)
+    (λ e. when-fits 4 (badOutput (heldBy p) room) _ (omega arith) (λ e. day-rows-fit (heldBy p) (p .accrued .last) d)))
+    (when-fits 7 (eqb (total (heldBy p) (accountsBrought p d)) 0) Clear (omega arith) (λ e. tt))
 
 -- ---- lists
 
@@ -123,9 +124,9 @@ module _ (o : Opening) (accts : List Account) (positive : 0 < total o accts) (fe
   unfolding dailies
   dailies-fit = every-flatMap Fits64 _ (members (o .n)) (λ m i. five-fits i)
 
-day-figures-fit : (p : Period) (d : DayInput) (room : ℕ) → Admits p d room × (0 < total (held p) (accountsBrought p d)) → Every Fits64 (total (held p) (accountsBrought p d) ∷ maxEul (held p) (accountsBrought p d) ∷ [])
+day-figures-fit : (p : Period) (d : DayInput) (room : ℕ) → Admits p d room × (0 < total (heldBy p) (accountsBrought p d)) → Every Fits64 (total (heldBy p) (accountsBrought p d) ∷ maxEul (heldBy p) (accountsBrought p d) ∷ [])
 day-figures-fit p d room (s, t) =
-    (omega (arith, total-few s), (omega (arith, total-few s, max-le-total (held p) (accountsBrought p d)), tt))
+    (omega (arith, total-few s), (omega (arith, total-few s, max-le-total (heldBy p) (accountsBrought p d)), tt))
 
 -- ---- a closing that is accepted
 
@@ -135,7 +136,7 @@ three-fits r h = (omega arith, (omega arith, (omega arith, tt)))
 
 module _ {p : Period} {room : ℕ} (c : Closable p room) (full : length (p .accrued .sums) ≡ 32) where
   few : p .held .n ≤ 32
-  few = opening-leaves (held p) (in-range c .opened) .members-few
+  few = opening-leaves (heldBy p) (in-range c .opened) .members-few
 
   sums-long : length (sumsHeld p) ≡ p .held .n
   sums-long = length-take-le (p .held .n) (p .accrued .sums) (omega (arith, few))
@@ -173,20 +174,20 @@ zeros-fit = indexed Fits64 (replicate 32 0) (λ i. omega (arith, replicate-at {A
 none-accrued : NarrowAccrued (freshPeriod .accrued)
 none-accrued = record { last = omega arith; days = omega arith; highest = omega arith; sums = zeros-fit; sums-long = refl }
 
+narrow-places : (o : Opening) → o .n ≤ 32 → o .k ≤ 16 → ((i : ℕ) → getD (o .groups) i 0 ≤ 32) → NarrowOpening (inPlaces o)
+narrow-places o n k group =
+    record {
+      n = omega arith;
+      k = omega arith;
+      groups = every-map Fits64 (λ i. getD (o .groups) i 0) (range 0 32) (λ i m. omega (arith, group i));
+      groups-long = table-length (λ i. getD (o .groups) i 0) 0 32;
+    }
+
 narrow-opened : (o : Opening) → badOpening o ≡ false → Narrow (openedPeriod o)
 narrow-opened o e =
     let l = opening-leaves o e in
     let group : (i : ℕ) → getD (o .groups) i 0 ≤ 32 = at-any (λ x. x ≤ 32) (o .groups) 0 (omega arith) (λ i h. l .group-few i (omega (arith, l .groups-long))) in
-    record {
-      held =
-          record {
-            n = omega (arith, l .members-few);
-            k = omega (arith, l .scenarios-few);
-            groups = every-map Fits64 (λ i. getD (o .groups) i 0) (range 0 32) (λ i m. omega (arith, group i));
-            groups-long = table-length (λ i. getD (o .groups) i 0) 0 32;
-          };
-      accrued = none-accrued;
-    }
+    record { held = narrow-places o (l .members-few) (l .scenarios-few) group; accrued = none-accrued }
 
 narrow-sized : (p : Period) (d : DayInput) → inRange (sizedPeriod p d) ≡ true → Narrow p → Narrow (sizedPeriod p d)
 narrow-sized p d e q =
@@ -207,7 +208,7 @@ narrow-closed : (p : Period) → Narrow p → Narrow (closedPeriod p)
 narrow-closed p q = record { held = q .held; accrued = q .accrued }
 
 pub narrow-fresh : Narrow freshPeriod
-narrow-fresh = record { held = record { n = omega arith; k = omega arith; groups = zeros-fit; groups-long = refl }; accrued = none-accrued }
+narrow-fresh = record { held = narrow-places noOpening (omega arith) (omega arith) (λ i. omega arith); accrued = none-accrued }
 
 -- ---- a call, by what the refusal table says
 
@@ -227,12 +228,12 @@ fits {p} q (Asked.opening o) r after (m, none) =
     }
 fits {p} q (Asked.day d out) r after m =
     let x = dayRow p d (length out) in
-    let pass : x ≡ Clear → Admits p d (length out) × (0 < total (held p) (accountsBrought p d)) = passes-all p d (length out) in
+    let pass : x ≡ Clear → Admits p d (length out) × (0 < total (heldBy p) (accountsBrought p d)) = passes-all p d (length out) in
     record {
       answer = rw (m .answer) (answer-fits x _ (day-row-fits p d (length out)) (λ e. day-figures-fit p d (length out) (pass e)));
       period = subst Narrow (sym (m .period)) (either Narrow x _ p (λ e. narrow-sized p d (sized-in-range p d (pass e .0) (pass e .1)) q) q);
-      buffer = λ b. subst (Every Fits64) (sym (m .buffer)) (either (Every Fits64) x _ out (λ e. dailies-fit (held p) (accountsBrought p d) (pass e .1) (total-few (pass e .0))) b);
-      long = ap length (m .buffer) ∙ either (λ (l : List ℕ). length l ≡ length out) x _ out (λ e. dailies-long (held p) (accountsBrought p d) ∙ sym (pass e .0 .room-long)) refl;
+      buffer = λ b. subst (Every Fits64) (sym (m .buffer)) (either (Every Fits64) x _ out (λ e. dailies-fit (heldBy p) (accountsBrought p d) (pass e .1) (total-few (pass e .0))) b);
+      long = ap length (m .buffer) ∙ either (λ (l : List ℕ). length l ≡ length out) x _ out (λ e. dailies-long (heldBy p) (accountsBrought p d) ∙ sym (pass e .0 .room-long)) refl;
     }
 fits {p} q (Asked.closing out) r after m =
     let x = closingRow p (length out) in
@@ -267,9 +268,9 @@ makes p (Asked.opening o) =
 makes p (Asked.day d out) =
     let x = dayRow p d (length out) in
     let accts = accountsBrought p d in
-    let sized = says.Sized (total (held p) accts) (maxEul (held p) accts) in
+    let sized = says.Sized (total (heldBy p) accts) (maxEul (heldBy p) accts) in
     let r : Reply = record { outcome = outcomeBy x sized; period = ifAccepted x (sizedPeriod p d) p } in
-    (r, ifAccepted x (dailies (held p) accts) out, record { answer = answered x _ _ refl; period = refl; buffer = refl })
+    (r, ifAccepted x (dailies (heldBy p) accts) out, record { answer = answered x _ _ refl; period = refl; buffer = refl })
 makes p (Asked.closing out) =
     let x = closingRow p (length out) in
     let closed = says.Closed (p .accrued .days) (p .accrued .highest) (Σ (sumsHeld p) (λ s. funded (chargeBy p s))) in

@@ -123,7 +123,7 @@ module _ {k j : ℕ} {kinds : List ℕ} {npvs : List ℤ} {margins extras : List
           record {
             most = omega arith;
             place = omega (arith, p .place);
-            held = d .held i (p .held);
+            held = d .counted i (p .held);
             sum =
                 λ accts l.
                 let c : i < length accts = omega (arith, l .kinds-long) in

@@ -83,7 +83,7 @@ module _ (t : Tally) (e : ℤ) (s : Small t) (b : natAbs e ≤ 2 * limit) where
   pub house : TallyWith t kindH e with-house
   house =
       record {
-        held = λ n h. record { all = omega (arith, h .all, abs-add (t .house) e); apart = h .apart; order = h .order };
+        counted = λ n h. record { all = omega (arith, h .all, abs-add (t .house) e); apart = h .apart; order = h .order };
         over = over-house;
       }
 
@@ -104,7 +104,7 @@ module _ (t : Tally) (e : ℤ) (s : Small t) (b : natAbs e ≤ 2 * limit) where
   other : (k : ℕ) → k ≤ kindU → (k ≡ kindH → ⊥) → (k ≡ kindR → ⊥) → TallyWith t k e with-other
   other k h h₀ h₁ =
       record {
-        held = λ n g. record { all = omega (arith, g .all, gain-le e b); apart = omega (arith, g .apart); order = g .order };
+        counted = λ n g. record { all = omega (arith, g .all, gain-le e b); apart = omega (arith, g .apart); order = g .order };
         over =
             λ eul a rest q r.
             over-other eul a rest
@@ -136,7 +136,7 @@ module _ (t : Tally) (e : ℤ) (s : Small t) (b : natAbs e ≤ 2 * limit) where
   client-R : TallyWith t kindR e (with-client (e ⁺))
   client-R =
       record {
-        held = λ n g. record { all = omega (arith, g .all, gain-le e b); apart = omega (arith, g .apart); order = omega (arith, g .order) };
+        counted = λ n g. record { all = omega (arith, g .all, gain-le e b); apart = omega (arith, g .apart); order = omega (arith, g .order) };
         over = over-R;
       }
 

@@ -38,7 +38,7 @@ Small t = TallyOf t 256
 
 -- `r` is `t` with one account more, of the given kind and EUL: whatever follows, the member's EUL is the same
 pub record TallyWith (t : Tally) (kind : ℕ) (e : ℤ) (r : Tally) : Type 0 where
-  pub held : (count : ℕ) → TallyOf t count → TallyOf r (count + 1)
+  pub counted : (count : ℕ) → TallyOf t count → TallyOf r (count + 1)
   pub over :
       (eul : Account → ℤ) (a : Account) (rest : List Account) → a .heading .kind ≡ kind → eul a ≡ e
       → eulOver r eul rest ≡ eulOver t eul (a ∷ rest)

@@ -111,7 +111,7 @@ fn member_losses(
 
 // The greatest of 0, all members' EULs and all group sums, under all scenarios. "Every scenario is added up for itself, in an array of
 // group rows by scenario."
-fn max_eul(
+pub fn max_eul(
     opening: Opening,
     members: &[u64],
     kinds: &[u64],

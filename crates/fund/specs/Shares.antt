@@ -10,6 +10,10 @@ use Rattle.numbers.specs.Lists.{range}
 abbrev pub shareIn : (out : List ℕ) → (i : ℕ) → ℕ
 shareIn out i = getD out (5 * i + 1) 0
 
--- n members, in an array of 32: each sum with the share that the day wrote
+-- an array of 32 sums, each with what place i adds
+abbrev pub plusEach : (sums : List ℕ) → (added : (i : ℕ) → ℕ) → List ℕ
+plusEach sums added = map (λ i. getD sums i 0 + added i) (range 0 32)
+
+-- the sums of n members, each with the share that the day wrote; past member n nothing is added
 abbrev pub withShares : (sums : List ℕ) → (n : ℕ) → (out : List ℕ) → List ℕ
-withShares sums n out = map (λ i. getD sums i 0 + cond (ltb i n) (shareIn out i) 0) (range 0 32)
+withShares sums n out = plusEach sums (λ i. cond (ltb i n) (shareIn out i) 0)

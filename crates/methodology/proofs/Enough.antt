@@ -14,7 +14,7 @@ use Rattle.methodology.specs.declared.Refusal.{Refusal}
 use Rattle.methodology.specs.declared.Refusal.the-variants.{Clear, Row, RowAt}
 use Rattle.methodology.specs.declared.Opening.{Opening}
 use Rattle.methodology.specs.Account.{DayInput}
-use Rattle.methodology.specs.Refusals.{isOpen, nOutside, kOutside, countOutside, badInput, badOutput, badDayNumber, dayRows, dayRefusal}
+use Rattle.methodology.specs.Refusals.{isOpen, nOutside, kOutside, countOutside, badInput, badOutput, badDayNumber, dayRows, beforeFigures, dayRefusal}
 use Rattle.methodology.specs.Register.{Call, Register, start, lastNumber, refusal, accept, step}
 use Rattle.methodology.specs.Text.{bytes, same, AccountLine, Expected, period, member, day, account, afterEnd, Read, ends, goesOn, readPeriod, opened, readMember, readDay, sized, withAccount, readAccount, readLine}
 use Rattle.methodology.proofs.Passed.{inside, passed, passed-rows, either, by-test, number-rises}
@@ -82,11 +82,11 @@ after-day m l g i (some ns) h k = by-test (EnoughAfter m) (countOutside (getD ns
 
 -- an accepted day's number is above the last, and at most 31
 pub rises : (g : Register) (d : DayInput) (room : ℕ) → refusal g (Call.day d room) ≡ Clear → (lastNumber (g .days) < d .terms .number) × (d .terms .number ≤ 31)
-unfolding refusal dayRefusal dayRows
+unfolding refusal dayRefusal beforeFigures dayRows
 rises g d room e =
-    let (_, r₁) = passed 2 (not (isOpen (g .status))) _ e in
-    let (_, r₂) = passed 4 (badOutput (g .held) room) _ r₁ in
-    let (r₃, _) = passed-rows (dayRows (g .held) (lastNumber (g .days)) d) _ r₂ in
+    let (r₁, _) = passed-rows (beforeFigures (g .status) (g .held) (lastNumber (g .days)) d room) _ e in
+    let (_, r₂) = passed 2 (not (isOpen (g .status))) _ r₁ in
+    let (_, r₃) = passed 4 (badOutput (g .held) room) _ r₂ in
     let (_, r₄) = passed 4 (badInput (g .held) d) _ r₃ in
     let (e3, _) = passed 3 (badDayNumber (lastNumber (g .days)) (d .terms .number)) _ r₄ in
     let (high, above) = number-rises (lastNumber (g .days)) (d .terms .number) e3 in

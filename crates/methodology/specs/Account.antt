@@ -11,8 +11,8 @@ use Rattle.methodology.specs.declared.Opening.{Opening}
 use Rattle.methodology.specs.declared.DayTerms.{DayTerms}
 use Rattle.methodology.specs.declared.Heading.{Heading}
 
--- What an opening brings, `Opening` in src/lib.rt: "A period has n members, numbered 1 to n (1 to 32), and k stress scenarios (1 to 16). Each
--- member has a group number, 0 to 32."
+-- What an opening brings is `Opening`, declared in src/lib.rt: "A period has n members, numbered 1 to n (1 to 32), and k stress scenarios (1
+-- to 16). Each member has a group number, 0 to 32." In a definition its groups are a list of any length, as a call brings it.
 
 -- the same opening, with other groups
 abbrev pub withGroups : Opening → (groups : List ℕ) → Opening
@@ -30,7 +30,7 @@ members n = range 1 n
 abbrev pub scenarios : (k : ℕ) → List ℕ
 scenarios k = range 1 k
 
--- What a day brings: its terms, which are its number, and in four lent slices its accounts. "No field may be missing." "The headings of a
+-- What a day brings: its terms (`DayTerms`, declared in src/lib.rt), which are its number, and in four lent slices its accounts. "No field may be missing." "The headings of a
 -- day's accounts (member, account number, kind) come as a lent slice of records [..]; the NPVs come as one lent slice of signed 64-bit
 -- numbers [..]; margins and extras come in two further slices, one number an account."
 pub record DayInput : Type 0 where

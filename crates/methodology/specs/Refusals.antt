@@ -1,5 +1,5 @@
 -- Document 01, "Calls on a period": the refusal table, call by call, each row in its order of precedence. "Where several hold: opening 2, 1;
--- day 2, 4, 3, 5, 6, 7; closing 2, 8, 4." Row 9 is the text's. `Heading`, `Status` and `Refusal` are declared in src/lib.rt.
+-- day 2, 4, 3, 5, 6, 7; closing 2, 8, 4." Row 9 is the text's. `Heading`, `Opening`, `DayTerms`, `Status` and `Refusal` are declared in src/lib.rt.
 use mathlib.Core.Bool.{Bool, true, false, not, _&&_, _||_, cond}
 use mathlib.Core.List.{List, [], _∷_}
 use Prim.Native.Nat.{ℕ, suc, _+_, _*_}
@@ -167,12 +167,17 @@ dayRows o last d =
     row 3 when badDayNumber last (d .terms .number) else
     accountRows o d
 
--- "day 2, 4, 3, 5, 6, 7". Row 2: "day [..] while not open". Row 4 is met by the output or by the input. Row 7: "T is 0".
-unfoldable pub dayRefusal : Status → Opening → (last : ℕ) → DayInput → (room : ℕ) → Refusal
-dayRefusal s o last d room =
+-- The rows of a day call before its figures: 2, 4, 3, 5, 6. Row 2: "day [..] while not open". Row 4 is met by the output or by the input.
+unfoldable pub beforeFigures : Status → Opening → (last : ℕ) → DayInput → (room : ℕ) → Refusal
+beforeFigures s o last d room =
     row 2 when not (isOpen s) else
     row 4 when badOutput o room else
-    rows-of dayRows o last d else
+    dayRows o last d
+
+-- "day 2, 4, 3, 5, 6, 7". Row 7: "T is 0".
+unfoldable pub dayRefusal : Status → Opening → (last : ℕ) → DayInput → (room : ℕ) → Refusal
+dayRefusal s o last d room =
+    rows-of beforeFigures s o last d room else
     row 7 when eqb (total o (accounts (o .k) d)) 0 else
     Clear
 

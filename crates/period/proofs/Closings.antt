@@ -12,7 +12,7 @@ use Rattle.methodology.proofs.Passed.{passed}
 use Rattle.quotient.specs.Ranges.{Charge}
 use Rattle.validation.proofs.OpeningPasses.{opening-leaves}
 use Rattle.period.specs.declared.Period.{Period}
-use Rattle.period.specs.Calls.{held, statusOf, closingRow}
+use Rattle.period.specs.Calls.{heldBy, statusOf, closingRow}
 use Rattle.period.proofs.Ranges.{Ranged, ranged, open-in-range}
 
 pub record Closable (p : Period) (room : ℕ) : Type 0 where
@@ -34,7 +34,7 @@ module _ {p : Period} {room : ℕ} (c : Closable p room) where
   in-range = ranged p (open-in-range p (c .opened))
 
   pub members-few : p .held .n ≤ 32
-  members-few = opening-leaves (held p) (in-range .opened) .members-few
+  members-few = opening-leaves (heldBy p) (in-range .opened) .members-few
 
   pub charges : (i : ℕ) → i < p .held .n → Charge (p .accrued .highest) (getD (p .accrued .sums) i 0) (p .accrued .days)
   charges i h =

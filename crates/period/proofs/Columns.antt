@@ -17,7 +17,7 @@ use Rattle.methodology.specs.declared.DayTerms.{DayTerms}
 use Rattle.methodology.specs.declared.Heading.{Heading}
 use Rattle.methodology.specs.declared.Refusal.the-variants.{Row}
 use Rattle.methodology.specs.Account.{DayInput, nobody}
-use Rattle.methodology.specs.Refusals.{row_when_else_, rows-of_else_, isOpen, countOutside, badOutput, dayRows, dayRefusal}
+use Rattle.methodology.specs.Refusals.{row_when_else_, rows-of_else_, isOpen, countOutside, badOutput, dayRows, beforeFigures, dayRefusal}
 use Rattle.headings.specs.Columns.{column, columns}
 use Rattle.headings.proofs.Filled.{column-length, columns-length}
 use Rattle.validation.specs.Slices.{headings, plainDay, Even}
@@ -25,8 +25,8 @@ use Rattle.validation.proofs.Headings.{headings-length}
 use Rattle.period.specs.declared.Period.{Period}
 use Rattle.period.specs.declared.Reply.{Reply}
 use Rattle.period.specs.Reading.{dayBrought}
-use Rattle.period.specs.Calls.{held, statusOf, dayRow, DayMeets}
-use Rattle.period.specs.Plain.{cutDay}
+use Rattle.period.specs.Calls.{heldBy, statusOf, dayRow, DayMeets}
+use Rattle.period.specs.Inner.{cutDay}
 
 -- parts of a slice of 768 places
 module _ (n : ℕ) (all : List ℕ) (few : n ≤ 256) (full : length all ≡ 768) where
@@ -108,10 +108,10 @@ module _ (hs : List Heading) where
 
 -- a day with no accounts, or more than 256, is refused by its length at the latest
 uncounted : (p : Period) (d : DayInput) (room : ℕ) → countOutside (length (d .headings)) ≡ true → dayRow p d room ≡ Row (cond (isOpen (statusOf p)) 4 2)
-unfolding dayRow dayRefusal dayRows row_when_else_ rows-of_else_
-uncounted p d room e = by (isOpen (statusOf p)) (badOutput (held p) room) refl refl
+unfolding dayRow dayRefusal beforeFigures dayRows row_when_else_ rows-of_else_
+uncounted p d room e = by (isOpen (statusOf p)) (badOutput (heldBy p) room) refl refl
   where
-    by : (b x : Bool) → isOpen (statusOf p) ≡ b → badOutput (held p) room ≡ x → dayRow p d room ≡ Row (cond b 4 2)
+    by : (b x : Bool) → isOpen (statusOf p) ≡ b → badOutput (heldBy p) room ≡ x → dayRow p d room ≡ Row (cond b 4 2)
     by true true o f = rw (o, f)
     by true false o f = rw (o, f, e)
     by false x o f = rw o

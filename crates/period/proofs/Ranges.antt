@@ -16,13 +16,13 @@ use Rattle.methodology.specs.Day.{scale}
 use Rattle.methodology.specs.Refusals.{isOpen, badOpening}
 use Rattle.quotient.specs.Ranges.{greatestTotal}
 use Rattle.period.specs.declared.Period.{Period}
-use Rattle.period.specs.Calls.{held, inRange, statusOf}
+use Rattle.period.specs.Calls.{heldBy, inRange, statusOf}
 
 pub record Ranged (p : Period) : Type 0 where
   pub month : p .accrued .last ≤ 31
   pub counted : p .accrued .days ≤ p .accrued .last
   pub bounded : p .accrued .highest ≤ greatestTotal
-  pub opened : badOpening (held p) ≡ false
+  pub opened : badOpening (heldBy p) ≡ false
   pub sums : (i : ℕ) → getD (p .accrued .sums) i 0 ≤ p .accrued .days * scale
 
 -- no number of a list is above `most`
@@ -33,7 +33,7 @@ pub ranged : (p : Period) → inRange p ≡ true → Ranged p
 unfolding inRange
 ranged p e =
     let (r₄, e₅) = both _ (not (any (ltb (p .accrued .days * scale)) (p .accrued .sums))) e in
-    let (r₃, e₄) = both _ (not (badOpening (held p))) r₄ in
+    let (r₃, e₄) = both _ (not (badOpening (heldBy p))) r₄ in
     let (r₂, e₃) = both _ (leb (p .accrued .highest) greatestTotal) r₃ in
     let (e₁, e₂) = both _ (leb (p .accrued .days) (p .accrued .last)) r₂ in
     record {

@@ -21,12 +21,12 @@ use Rattle.quotient.specs.Ranges.{greatestTotal}
 use Rattle.exposure.proofs.MaxTotal.{max-le-total}
 use Rattle.validation.proofs.OpeningPasses.{opening-leaves}
 use Rattle.period.specs.declared.Period.{Period}
-use Rattle.period.specs.Calls.{freshPeriod, held, inRange, statusOf, openingRow, openedPeriod, accountsBrought, dayRow, shareAt, sizedPeriod, closingRow, closedPeriod}
+use Rattle.period.specs.Calls.{freshPeriod, heldBy, inRange, statusOf, openingRow, openedPeriod, accountsBrought, dayRow, shareAt, sizedPeriod, closingRow, closedPeriod}
 use Rattle.period.specs.Follows.{Reached, fresh, by-opening, by-day, by-closing}
 use Rattle.period.proofs.Sizing.{Admits, passes-all, total-few, share-few}
 
 -- an opening
-pub held-opened : (o : Opening) → length (o .groups) ≡ o .n → o .n ≤ 32 → held (openedPeriod o) .groups ≡ o .groups
+pub held-opened : (o : Opening) → length (o .groups) ≡ o .n → o .n ≤ 32 → heldBy (openedPeriod o) .groups ≡ o .groups
 held-opened o long few =
     table-take (λ i. getD (o .groups) i 0) 0 32 (o .n) 0 few ∙ sym (rw long at (own-table (o .groups) 0))
 
@@ -37,7 +37,7 @@ opened-in-range o e =
     rw (held-opened o (l .groups-long) (l .members-few), e)
 
 -- a day that the table lets pass
-module _ (p : Period) (d : DayInput) {room : ℕ} (s : Admits p d room) (positive : 0 < total (held p) (accountsBrought p d)) where
+module _ (p : Period) (d : DayInput) {room : ℕ} (s : Admits p d room) (positive : 0 < total (heldBy p) (accountsBrought p d)) where
   sums-few : any (ltb ((p .accrued .days + 1) * scale)) (sizedPeriod p d .accrued .sums) ≡ false
   sums-few =
       let r = s .in-range in
@@ -52,7 +52,7 @@ module _ (p : Period) (d : DayInput) {room : ℕ} (s : Admits p d room) (positiv
       rw (
         le-leb (d .terms .number) 31 a,
         le-leb (p .accrued .days + 1) (d .terms .number) (omega (arith, r .counted)),
-        le-leb (max (p .accrued .highest) (maxEul (held p) (accountsBrought p d))) greatestTotal (omega (arith, r .bounded, max-le-total (held p) (accountsBrought p d), total-few s)),
+        le-leb (max (p .accrued .highest) (maxEul (heldBy p) (accountsBrought p d))) greatestTotal (omega (arith, r .bounded, max-le-total (heldBy p) (accountsBrought p d), total-few s)),
         r .opened,
         sums-few,
       )

@@ -1,6 +1,6 @@
 -- Replies by what the refusal table says.
 use mathlib.Core.Path.{_≡_, refl, sym, ap, _∙_}
-use mathlib.Core.Bool.{Bool, true, false, not, true≢false}
+use mathlib.Core.Bool.{true, false, true≢false}
 use mathlib.Core.List.{List, [], flatMap}
 use Prim.Native.Nat.{ℕ}
 use lib.Dec.{eqb}
@@ -14,7 +14,7 @@ use Rattle.methodology.specs.declared.Opening.{Opening}
 use Rattle.methodology.specs.Account.{withGroups, DayInput}
 use Rattle.methodology.specs.Day.{total, maxEul, dailies}
 use Rattle.methodology.specs.Contribution.{funded, three}
-use Rattle.methodology.specs.Refusals.{row_when_else_, rows-of_else_, isOpen, badOpening, openingRefusal, badOutput, dayRows, dayRefusal}
+use Rattle.methodology.specs.Refusals.{row_when_else_, rows-of_else_, isOpen, badOpening, openingRefusal, dayRefusal}
 use Rattle.methodology.specs.Register.{Answer, ifAccepted, answerBy}
 use Rattle.methodology.proofs.Passed.{passed}
 use Rattle.validation.specs.Slices.{inPlaces}
@@ -23,8 +23,8 @@ use Rattle.validation.proofs.OpeningPasses.{opening-leaves}
 use Rattle.period.specs.declared.Period.{Period}
 use Rattle.period.specs.declared.Reply.{Reply}
 use Rattle.period.specs.declared.Outcome.the-variants as says
-use Rattle.period.specs.Calls.{begunPeriod, held, statusOf, openingRow, openedPeriod, OpeningMeets, accountsBrought, dayRow, sizedPeriod, DayMeets, closingRow, sumsHeld, chargeBy, closedPeriod, ClosingMeets}
-use Rattle.period.specs.Plain.{isRefused, Refuses, beforeFigures, withDay}
+use Rattle.period.specs.Calls.{begunPeriod, heldBy, statusOf, openingRow, openedPeriod, OpeningMeets, accountsBrought, dayRow, sizedPeriod, DayMeets, closingRow, sumsHeld, chargeBy, closedPeriod, ClosingMeets}
+use Rattle.period.specs.Inner.{isRefused, Refuses, earlyRow, withDay}
 
 -- a row that is met decides alone
 refused-answer : {a : Answer} (x : Refusal) (figures : List ℕ) → isRefused x ≡ true → a ≡ answerBy x [] → a ≡ answerBy x figures
@@ -50,19 +50,9 @@ none-met (RowAt number index) f = absurd (true≢false f)
 
 -- the rows before a day's figures, and row 7
 pub split-off : (p : Period) (d : DayInput) (room : ℕ)
-    → dayRow p d room ≡ rows-of beforeFigures p d room else row 7 when eqb (total (held p) (accountsBrought p d)) 0 else Clear
-unfolding dayRow dayRefusal beforeFigures row_when_else_ rows-of_else_
-split-off p d room = by (isOpen (statusOf p)) (badOutput (held p) room)
-  where
-    seven : Refusal
-    seven = row 7 when eqb (total (held p) (accountsBrought p d)) 0 else Clear
-
-    by : (opened bad : Bool)
-        → row 2 when not opened else row 4 when bad else rows-of dayRows (held p) (p .accrued .last) d else seven
-        ≡ rows-of (row 2 when not opened else row 4 when bad else dayRows (held p) (p .accrued .last) d) else seven
-    by true true = refl
-    by true false = refl
-    by false bad = refl
+    → dayRow p d room ≡ rows-of earlyRow p d room else row 7 when eqb (total (heldBy p) (accountsBrought p d)) 0 else Clear
+unfolding dayRow dayRefusal earlyRow
+split-off p d room = refl
 
 -- an opening
 module _ (p : Period) (o : Opening) where
@@ -94,19 +84,19 @@ module _ (p : Period) (d : DayInput) (out : List ℕ) where
   refused-by x e t r =
       record { answer = rw (sym e) (refused-answer x _ t (r .answer)); period = rw (sym e) (refused-alone x _ t (r .period)); buffer = rw (sym e) (refused-alone x _ t refl) }
 
-  pub day-refused : {r : Reply} (x : Refusal) → x ≡ beforeFigures p d (length out) → isRefused x ≡ true → Refuses p x r → DayMeets p d out r out
+  pub day-refused : {r : Reply} (x : Refusal) → x ≡ earlyRow p d (length out) → isRefused x ≡ true → Refuses p x r → DayMeets p d out r out
   day-refused x e t = refused-by x (sym (split-off p d (length out) ∙ rw (sym e) (refused-first x _ t))) t
 
-  pub day-refused-7 : {r : Reply} → beforeFigures p d (length out) ≡ Clear → total (held p) (accountsBrought p d) ≡ 0 → Refuses p (Row 7) r → DayMeets p d out r out
+  pub day-refused-7 : {r : Reply} → earlyRow p d (length out) ≡ Clear → total (heldBy p) (accountsBrought p d) ≡ 0 → Refuses p (Row 7) r → DayMeets p d out r out
   unfolding row_when_else_ rows-of_else_
   day-refused-7 e z = refused-by (Row 7) (sym (split-off p d (length out) ∙ rw (e, z))) refl
 
-  pub day-clear : beforeFigures p d (length out) ≡ Clear → ¬ (total (held p) (accountsBrought p d) ≡ 0) → dayRow p d (length out) ≡ Clear
+  pub day-clear : earlyRow p d (length out) ≡ Clear → ¬ (total (heldBy p) (accountsBrought p d) ≡ 0) → dayRow p d (length out) ≡ Clear
   unfolding row_when_else_ rows-of_else_
   day-clear e h = split-off p d (length out) ∙ rw (e, ne-eqb _ _ h)
 
   pub day-accepted : dayRow p d (length out) ≡ Clear → (t top : ℕ) (after : List ℕ)
-      → t ≡ total (held p) (accountsBrought p d) → top ≡ maxEul (held p) (accountsBrought p d) → after ≡ dailies (held p) (accountsBrought p d)
+      → t ≡ total (heldBy p) (accountsBrought p d) → top ≡ maxEul (heldBy p) (accountsBrought p d) → after ≡ dailies (heldBy p) (accountsBrought p d)
       → withDay p (d .terms) top after ≡ sizedPeriod p d
       → DayMeets p d out (record { period = withDay p (d .terms) top after; outcome = says.Sized t top }) after
   day-accepted e t top after a b w q = record { answer = rw (e, a, b); period = q ∙ rw e; buffer = rw (e, w) }

@@ -20,7 +20,7 @@ use Rattle.methodology.specs.Account.{withGroups, DayInput, Account, members, a
 use Rattle.methodology.specs.Member.{loss}
 use Rattle.methodology.specs.Day.{total, maxEul, share, dailies}
 use Rattle.methodology.specs.Contribution.{KeptDay, highest, sumOfShares, funded, three}
-use Rattle.methodology.specs.Refusals.{isOpen, openingRefusal, dayRefusal, closingRefusal}
+use Rattle.methodology.specs.Refusals.{isOpen, openingRefusal, beforeFigures, dayRefusal, closingRefusal}
 use Rattle.methodology.specs.Register.{Call, Register, start, lastNumber, refusal, accept, ifAccepted, step, returned, written, Answer, accepted, answerBy, answer, buffer}
 use Rattle.fund.proofs.Contributions.{are-contributions, is-total-funded}
 use Rattle.period.specs.declared.Period.{Period}
@@ -28,7 +28,7 @@ use Rattle.period.specs.declared.Reply.{Reply}
 use Rattle.period.specs.Reading.{answerOf}
 use Rattle.period.specs.Registered.{sumAt, periodOf}
 use Rattle.period.specs.Follows.{Reached, fresh, by-opening, by-day, by-closing, Good, Follows}
-use Rattle.period.specs.Calls.{freshPeriod, withAccrued, held, statusOf, openingRow, openedPeriod, OpeningMeets, accountsBrought, dayRow, sizedPeriod, DayMeets, closingRow, sumsHeld, chargeBy, closedPeriod, ClosingMeets}
+use Rattle.period.specs.Calls.{freshPeriod, withAccrued, heldBy, statusOf, openingRow, openedPeriod, OpeningMeets, accountsBrought, dayRow, sizedPeriod, DayMeets, closingRow, sumsHeld, chargeBy, closedPeriod, ClosingMeets}
 use Rattle.period.proofs.Replies.{opening-passed}
 use Rattle.period.proofs.ByFields.{by-fields}
 use Rattle.period.proofs.Sizing.{passes-all}
@@ -38,7 +38,7 @@ pub starts : Follows start freshPeriod
 unfolding periodOf highest greatest range
 starts = record { is = refl; reached = fresh; good = record { groups-long = refl; members-few = omega arith; counted = tt } }
 
-held-is : (g : Register) → Good g → held (periodOf g) ≡ g .held
+held-is : (g : Register) → Good g → heldBy (periodOf g) ≡ g .held
 unfolding periodOf
 held-is g q =
     ap (withGroups (g .held)) (held-opened (g .held) (q .groups-long) (q .members-few))
@@ -131,9 +131,9 @@ opening-follows {g} {p} {o} f m =
 -- ---- day
 
 day-row : {g : Register} {p : Period} → Follows g p → (d : DayInput) (room : ℕ) → dayRow p d room ≡ refusal g (Call.day d room)
-unfolding dayRow refusal dayRefusal periodOf
+unfolding dayRow refusal dayRefusal beforeFigures periodOf
 day-row {g} {p} f d room =
-    let o : held p ≡ g .held = ap held (f .is) ∙ held-is g (f .good) in
+    let o : heldBy p ≡ g .held = ap heldBy (f .is) ∙ held-is g (f .good) in
     let l : p .accrued .last ≡ lastNumber (g .days) = ap (λ (p : Period). p .accrued .last) (f .is) in
     rw (open-alike f, o, l)
 
@@ -171,7 +171,7 @@ module _ (g : Register) (q : Good g) (d : DayInput) where
       (ap (λ (o : Opening). max (highest (g .held) (g .days)) (maxEul o accts)) same ∙ max-other (highest (g .held) (g .days)) (maxEul (g .held) accts))
       (ap (λ (o : Opening). map (λ i. getD (map (sumAt (g .held) (g .days)) (range 0 32)) i 0 + shareOf o i) (range 0 32)) same ∙ more-sums))
 
-  sized-good : (room : ℕ) → 0 < total (held (periodOf g)) (accountsBrought (periodOf g) d) → Good (accept g (Call.day d room))
+  sized-good : (room : ℕ) → 0 < total (heldBy (periodOf g)) (accountsBrought (periodOf g) d) → Good (accept g (Call.day d room))
   unfolding accept periodOf
   sized-good room t =
       record {
@@ -180,11 +180,11 @@ module _ (g : Register) (q : Good g) (d : DayInput) where
         counted = (rw (held-is g q) at t, q .counted);
       }
 
-  day-says : (room : ℕ) → total (held (periodOf g)) (accountsBrought (periodOf g) d) ∷ maxEul (held (periodOf g)) (accountsBrought (periodOf g) d) ∷ [] ≡ returned (accept g (Call.day d room)) (Call.day d room)
+  day-says : (room : ℕ) → total (heldBy (periodOf g)) (accountsBrought (periodOf g) d) ∷ maxEul (heldBy (periodOf g)) (accountsBrought (periodOf g) d) ∷ [] ≡ returned (accept g (Call.day d room)) (Call.day d room)
   unfolding periodOf accept returned
   day-says room = rw (held-is g q)
 
-  day-writes : (room : ℕ) → dailies (held (periodOf g)) (accountsBrought (periodOf g) d) ≡ written (accept g (Call.day d room)) (Call.day d room)
+  day-writes : (room : ℕ) → dailies (heldBy (periodOf g)) (accountsBrought (periodOf g) d) ≡ written (accept g (Call.day d room)) (Call.day d room)
   unfolding periodOf accept written
   day-writes room = rw (held-is g q)
 
@@ -195,13 +195,13 @@ day-follows {g} {p} {d} {before} f m =
     let room = length before in
     let c = Call.day d room in
     let same = day-row f d room in
-    let positive : dayRow p d room ≡ Clear → 0 < total (held (periodOf g)) (accountsBrought (periodOf g) d) = λ e. subst (λ (p : Period). 0 < total (held p) (accountsBrought p d)) (f .is) (passes-all p d room e .1) in (
+    let positive : dayRow p d room ≡ Clear → 0 < total (heldBy (periodOf g)) (accountsBrought (periodOf g) d) = λ e. subst (λ (p : Period). 0 < total (heldBy p) (accountsBrought p d)) (f .is) (passes-all p d room e .1) in (
       leads g c (dayRow p d room) same f (m .period) (by-day (f .reached) m)
           (λ e. (ap (λ (p : Period). sizedPeriod p d) (f .is) ∙ sized-is g (f .good) d room, sized-good g (f .good) d room (positive e))),
       tells g c (dayRow p d room) same _ (m .answer)
-          (λ e. ap (λ (p : Period). total (held p) (accountsBrought p d) ∷ maxEul (held p) (accountsBrought p d) ∷ []) (f .is) ∙ day-says g (f .good) d room),
+          (λ e. ap (λ (p : Period). total (heldBy p) (accountsBrought p d) ∷ maxEul (heldBy p) (accountsBrought p d) ∷ []) (f .is) ∙ day-says g (f .good) d room),
       fills g c (dayRow p d room) same _ before (m .buffer)
-          (λ e. ap (λ (p : Period). dailies (held p) (accountsBrought p d)) (f .is) ∙ day-writes g (f .good) d room),
+          (λ e. ap (λ (p : Period). dailies (heldBy p) (accountsBrought p d)) (f .is) ∙ day-writes g (f .good) d room),
     )
 
 -- ---- closing

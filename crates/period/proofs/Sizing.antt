@@ -17,7 +17,7 @@ use Rattle.methodology.specs.declared.Refusal.the-variants.{Clear}
 use Rattle.methodology.specs.Account.{DayInput, Account}
 use Rattle.methodology.specs.Member.{loss}
 use Rattle.methodology.specs.Day.{total, maxEul, scale, share, five, dailies}
-use Rattle.methodology.specs.Refusals.{isOpen, badOutput, badAmount, dayRows}
+use Rattle.methodology.specs.Refusals.{isOpen, badOutput, badAmount, beforeFigures}
 use Rattle.methodology.proofs.Passed.{passed, passed-rows}
 use Rattle.quotient.specs.Ranges.{Loss, greatestTotal}
 use Rattle.quotient.proofs.Bounds.{share-le}
@@ -37,8 +37,8 @@ use Rattle.exposure.proofs.Found as found
 use Rattle.fund.specs.Shares.{shareIn}
 use Rattle.fund.proofs.Dailies.{are-dailies, share-written}
 use Rattle.period.specs.declared.Period.{Period}
-use Rattle.period.specs.Calls.{held, statusOf, accountsBrought, dayRow, shareAt, withAccrued, sizedPeriod}
-use Rattle.period.specs.Plain.{beforeFigures, withDay}
+use Rattle.period.specs.Calls.{heldBy, statusOf, accountsBrought, dayRow, shareAt, withAccrued, sizedPeriod}
+use Rattle.period.specs.Inner.{earlyRow, withDay}
 use Rattle.period.proofs.Ranges.{Ranged, ranged, open-in-range}
 use Rattle.period.proofs.ByFields.{by-fields}
 use Rattle.period.proofs.Replies.{split-off}
@@ -46,39 +46,39 @@ use Rattle.period.proofs.Replies.{split-off}
 pub record Admits (p : Period) (d : DayInput) (room : ℕ) : Type 0 where
   pub in-range : Ranged p
   pub room-long : room ≡ 5 * p .held .n
-  pub rows : Passes (held p) (p .accrued .last) d
+  pub rows : Passes (heldBy p) (p .accrued .last) d
 
-pub admits : (p : Period) (d : DayInput) (room : ℕ) → beforeFigures p d room ≡ Clear → Admits p d room
-unfolding beforeFigures
+pub admits : (p : Period) (d : DayInput) (room : ℕ) → earlyRow p d room ≡ Clear → Admits p d room
+unfolding earlyRow beforeFigures
 admits p d room e =
     let (o, r₁) = passed 2 (not (isOpen (statusOf p))) _ e in
-    let (l, r₂) = passed 4 (badOutput (held p) room) _ r₁ in
+    let (l, r₂) = passed 4 (badOutput (heldBy p) room) _ r₁ in
     record {
       in-range = ranged p (open-in-range p (not-false _ o));
       room-long = eqb-true room _ (not-false _ l);
-      rows = passes (held p) (p .accrued .last) d r₂;
+      rows = passes (heldBy p) (p .accrued .last) d r₂;
     }
 
 -- a day that no row refuses
-pub passes-all : (p : Period) (d : DayInput) (room : ℕ) → dayRow p d room ≡ Clear → Admits p d room × (0 < total (held p) (accountsBrought p d))
+pub passes-all : (p : Period) (d : DayInput) (room : ℕ) → dayRow p d room ≡ Clear → Admits p d room × (0 < total (heldBy p) (accountsBrought p d))
 passes-all p d room e =
-    let (r, s) = passed-rows (beforeFigures p d room) _ (sym (split-off p d room) ∙ e) in
-    let (z, _) = passed 7 (eqb (total (held p) (accountsBrought p d)) 0) Clear s in
-    let positive = eqb-false (total (held p) (accountsBrought p d)) 0 z in
+    let (r, s) = passed-rows (earlyRow p d room) _ (sym (split-off p d room) ∙ e) in
+    let (z, _) = passed 7 (eqb (total (heldBy p) (accountsBrought p d)) 0) Clear s in
+    let positive = eqb-false (total (heldBy p) (accountsBrought p d)) 0 z in
     (admits p d room r, omega arith)
 
 -- what any day has that is admitted
 module _ {p : Period} {d : DayInput} {room : ℕ} (s : Admits p d room) where
   pub members-few : p .held .n ≤ 32
-  members-few = opening-leaves (held p) (s .in-range .opened) .members-few
+  members-few = opening-leaves (heldBy p) (s .in-range .opened) .members-few
 
   pub grouped : Grouped (p .held)
   grouped =
       record {
         few =
             λ i h.
-            let long = opening-leaves (held p) (s .in-range .opened) .groups-long in
-            rw (getD-take {A = ℕ} (p .held .n) (p .held .groups) i 0 h) at (groups-few (held p) (s .in-range .opened) i (omega arith));
+            let long = opening-leaves (heldBy p) (s .in-range .opened) .groups-long in
+            rw (getD-take {A = ℕ} (p .held .n) (p .held .groups) i 0 h) at (groups-few (heldBy p) (s .in-range .opened) i (omega arith));
       }
 
   pub sums-fit : (i : ℕ) → getD (p .accrued .sums) i 0 ≤ 31 * scale
@@ -88,39 +88,39 @@ module _ {p : Period} {d : DayInput} {room : ℕ} (s : Admits p d room) where
   good-amount =
       by-index (λ a. badAmount a ≡ false) (accountsBrought p d) none (λ i h. first-before badAmount (accountsBrought p d) i none (omega (arith, s .rows .amounts, accounts-long (p .held .k) d)))
 
-  pub total-few : total (held p) (accountsBrought p d) ≤ greatestTotal
+  pub total-few : total (heldBy p) (accountsBrought p d) ≤ greatestTotal
   total-few =
-      omega (arith, total-small (accountsBrought p d) good-amount (omega (arith, accounts-long (p .held .k) d, sized (held p) d (s .rows .input) .few)) (held p))
+      omega (arith, total-small (accountsBrought p d) good-amount (omega (arith, accounts-long (p .held .k) d, sized (heldBy p) d (s .rows .input) .few)) (heldBy p))
 
 -- a share of the whole is at most 10^12
-module _ (p : Period) (d : DayInput) (positive : 0 < total (held p) (accountsBrought p d)) where
+module _ (p : Period) (d : DayInput) (positive : 0 < total (heldBy p) (accountsBrought p d)) where
   pub share-few : (i : ℕ) → shareAt p d i ≤ scale
   unfolding share
   share-few i = by (ltb i (p .held .n)) refl
     where
-      by : (t : Bool) → ltb i (p .held .n) ≡ t → cond t (share (loss (p .held .k) (accountsBrought p d) (i + 1)) (total (held p) (accountsBrought p d))) 0 ≤ scale
+      by : (t : Bool) → ltb i (p .held .n) ≡ t → cond t (share (loss (p .held .k) (accountsBrought p d) (i + 1)) (total (heldBy p) (accountsBrought p d))) 0 ≤ scale
       by true q =
           let here : i < p .held .n = ltb-true i (p .held .n) q in
-          share-le scale _ _ positive (loss-le-total (held p) (accountsBrought p d) {m = i + 1} (range-mem 1 (p .held .n) (omega arith) (omega arith)))
+          share-le scale _ _ positive (loss-le-total (heldBy p) (accountsBrought p d) {m = i + 1} (range-mem 1 (p .held .n) (omega arith) (omega arith)))
       by false q = omega arith
 
 -- the shares of a day, in what it wrote
 module _ (p : Period) (d : DayInput) where
   written-at : (i : ℕ) (t : Bool) → ltb i (p .held .n) ≡ t
-      → cond t (shareIn (dailies (held p) (accountsBrought p d)) i) 0 ≡ cond t (share (loss (p .held .k) (accountsBrought p d) (i + 1)) (total (held p) (accountsBrought p d))) 0
+      → cond t (shareIn (dailies (heldBy p) (accountsBrought p d)) i) 0 ≡ cond t (share (loss (p .held .k) (accountsBrought p d) (i + 1)) (total (heldBy p) (accountsBrought p d))) 0
   written-at i true q =
-      share-written (held p) (accountsBrought p d) i (ltb-true i (p .held .n) q)
-      ∙ ap (λ (m : ℕ). share (loss (p .held .k) (accountsBrought p d) m) (total (held p) (accountsBrought p d))) (add-comm 1 i)
+      share-written (heldBy p) (accountsBrought p d) i (ltb-true i (p .held .n) q)
+      ∙ ap (λ (m : ℕ). share (loss (p .held .k) (accountsBrought p d) m) (total (heldBy p) (accountsBrought p d))) (add-comm 1 i)
   written-at i false q = refl
 
-  share-at : (i : ℕ) → cond (ltb i (p .held .n)) (shareIn (dailies (held p) (accountsBrought p d)) i) 0 ≡ shareAt p d i
+  share-at : (i : ℕ) → cond (ltb i (p .held .n)) (shareIn (dailies (heldBy p) (accountsBrought p d)) i) 0 ≡ shareAt p d i
   share-at i = written-at i (ltb i (p .held .n)) refl
 
-  pub shares-few : 0 < total (held p) (accountsBrought p d) → (i : ℕ) → i < p .held .n → shareIn (dailies (held p) (accountsBrought p d)) i ≤ scale
+  pub shares-few : 0 < total (heldBy p) (accountsBrought p d) → (i : ℕ) → i < p .held .n → shareIn (dailies (heldBy p) (accountsBrought p d)) i ≤ scale
   shares-few positive i h = rw (sym (share-at i), lt-ltb i (p .held .n) h) at (share-few p d positive i)
 
   -- so the period that takes them in is the one that the accounts give
-  pub taken-in : (top : ℕ) → top ≡ maxEul (held p) (accountsBrought p d) → (out : List ℕ) → out ≡ dailies (held p) (accountsBrought p d) → withDay p (d .terms) top out ≡ sizedPeriod p d
+  pub taken-in : (top : ℕ) → top ≡ maxEul (heldBy p) (accountsBrought p d) → (out : List ℕ) → out ≡ dailies (heldBy p) (accountsBrought p d) → withDay p (d .terms) top out ≡ sizedPeriod p d
   taken-in top e out w =
       rw (e, w) (ap (withAccrued p) (by-fields refl refl refl (map-eq _ _ (range 0 32) (λ i m. ap (λ (x : ℕ). getD (p .accrued .sums) i 0 + x) (share-at i)))))
 
@@ -135,7 +135,7 @@ module _ {p : Period} {terms : DayTerms} {members numbers kinds : List ℕ} {npv
 
   slices : Lent (p .held .k) kinds npvs margins extras accts
   slices =
-      let z = sized (held p) day (s .rows .input) in
+      let z = sized (heldBy p) day (s .rows .input) in
       let n = headings-length members numbers kinds in
       accounts-lent (p .held .k) terms members numbers kinds npvs margins extras (even .kinds-long) (rw n at (z .npvs-long)) (z .margins-long ∙ n) (z .extras-long ∙ n)
 
@@ -144,26 +144,26 @@ module _ {p : Period} {terms : DayTerms} {members numbers kinds : List ℕ} {npv
 
   pub sizable : Sizable (p .held .n) (p .held .k) members kinds npvs margins extras
   sizable =
-      admitted (held p) (s .in-range .opened) terms members numbers kinds npvs margins extras (even .kinds-long) (s .rows .input) (s .rows .headings) (s .rows .amounts)
+      admitted (heldBy p) (s .in-range .opened) terms members numbers kinds npvs margins extras (even .kinds-long) (s .rows .input) (s .rows .headings) (s .rows .amounts)
 
   -- what the program found
   module _ (r : Figures) (are : FiguresAre (p .held) members kinds npvs margins extras r) where
-    pub total-is : r .losses .total ≡ total (held p) accts
-    total-is = found.total-is (held p) accts slices own (r .losses) (are .losses)
+    pub total-is : r .losses .total ≡ total (heldBy p) accts
+    total-is = found.total-is (heldBy p) accts slices own (r .losses) (are .losses)
 
-    pub top-is : r .top ≡ maxEul (held p) accts
+    pub top-is : r .top ≡ maxEul (heldBy p) accts
     top-is = are .top .is accts slices own
 
     pub top-few : r .top ≤ greatestTotal
-    top-few = omega (arith, found.top-part (held p) accts slices own (r .losses) (are .losses) (r .top) top-is, total-is, total-few s)
+    top-few = omega (arith, found.top-part (heldBy p) accts slices own (r .losses) (are .losses) (r .top) top-is, total-is, total-few s)
 
     pub part : ¬ (r .losses .total ≡ 0) → (i : ℕ) → i < p .held .n → Loss (getD (r .losses .each) i 0) (r .losses .total)
     part h i l =
         record {
           positive = omega arith;
-          part = found.loss-part (held p) accts slices own (r .losses) (are .losses) i l;
+          part = found.loss-part (heldBy p) accts slices own (r .losses) (are .losses) i l;
           bounded = omega (arith, total-is, total-few s);
         }
 
-    pub written : flatMap (λ e. five e (r .top) (r .losses .total)) (take (p .held .n) (r .losses .each)) ≡ dailies (held p) accts
-    written = rw (top-is, total-is) (are-dailies (held p) accts (r .losses .each) (are .losses .each accts slices own))
+    pub written : flatMap (λ e. five e (r .top) (r .losses .total)) (take (p .held .n) (r .losses .each)) ≡ dailies (heldBy p) accts
+    written = rw (top-is, total-is) (are-dailies (heldBy p) accts (r .losses .each) (are .losses .each accts slices own))

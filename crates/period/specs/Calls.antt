@@ -13,7 +13,7 @@ use Rattle.methodology.specs.declared.Status.the-variants.{Fresh, Open, Closed}
 use Rattle.methodology.specs.declared.Refusal.{Refusal}
 use Rattle.methodology.specs.declared.Opening.{Opening}
 use Rattle.methodology.specs.declared.DayTerms.{DayTerms}
-use Rattle.methodology.specs.Account.{withGroups, noOpening, DayInput, Account, accounts}
+use Rattle.methodology.specs.Account.{noOpening, DayInput, Account, accounts}
 use Rattle.methodology.specs.Member.{loss}
 use Rattle.methodology.specs.Day.{total, maxEul, scale, share, dailies}
 use Rattle.methodology.specs.Contribution.{charge, funded, three}
@@ -21,6 +21,7 @@ use Rattle.methodology.specs.Refusals.{badOpening, openingRefusal, dayRefusal, 
 use Rattle.methodology.specs.Register.{ifAccepted, answerBy}
 use Rattle.quotient.specs.Ranges.{greatestTotal}
 use Rattle.validation.specs.Slices.{inPlaces, listed}
+use Rattle.fund.specs.Shares.{plusEach}
 use Rattle.period.specs.declared.Accrued.{Accrued}
 use Rattle.period.specs.declared.Period.{Period}
 use Rattle.period.specs.declared.Reply.{Reply}
@@ -32,15 +33,15 @@ begunPeriod status o =
     record { status = status; held = o; accrued = record { last = 0; days = 0; highest = 0; sums = replicate 32 0 } }
 
 abbrev pub freshPeriod : Period
-freshPeriod = begunPeriod Fresh (withGroups noOpening (replicate 32 0))
+freshPeriod = begunPeriod Fresh (inPlaces noOpening)
 
 -- the same period, with what its days come to
 abbrev pub withAccrued : Period → Accrued → Period
 withAccrued p a = record { status = p .status; held = p .held; accrued = a }
 
 -- the opening that a period holds
-abbrev pub held : Period → Opening
-held p = listed (p .held)
+abbrev pub heldBy : Period → Opening
+heldBy p = listed (p .held)
 
 -- Whether a period's fields are in the ranges of an open one: the last accepted day number at most 31, D at most that (day numbers rise
 -- from 1), M at most the greatest T that a day can have, an opening that row 1 lets pass, each sum at most D shares of the whole.
@@ -49,7 +50,7 @@ inRange p =
     leb (p .accrued .last) 31
     && leb (p .accrued .days) (p .accrued .last)
     && leb (p .accrued .highest) greatestTotal
-    && not (badOpening (held p))
+    && not (badOpening (heldBy p))
     && not (any (ltb (p .accrued .days * scale)) (p .accrued .sums))
 
 -- The status that counts. A period that is out of range counts as closed, and so does a fresh one (its n is 0), which no row tells from a
@@ -63,7 +64,7 @@ statusOf p = cond (inRange p) (p .status) Closed
 unfoldable pub openingRow : Period → Opening → Refusal
 openingRow p o = openingRefusal (statusOf p) o
 
--- the period after an accepted opening: "with M, D, the last accepted day number and all sums 0"
+-- the period after an accepted opening
 abbrev pub openedPeriod : Opening → Period
 openedPeriod o = begunPeriod Open (inPlaces o)
 
@@ -78,13 +79,13 @@ abbrev pub accountsBrought : Period → DayInput → List Account
 accountsBrought p d = accounts (p .held .k) d
 
 unfoldable pub dayRow : Period → DayInput → (room : ℕ) → Refusal
-dayRow p d room = dayRefusal (statusOf p) (held p) (p .accrued .last) d room
+dayRow p d room = dayRefusal (statusOf p) (heldBy p) (p .accrued .last) d room
 
 -- what an accepted day adds to the sum in place i: member i + 1's share
 abbrev pub shareAt : Period → DayInput → (i : ℕ) → ℕ
 shareAt p d i =
     let accts = accountsBrought p d in
-    cond (ltb i (p .held .n)) (share (loss (p .held .k) accts (i + 1)) (total (held p) accts)) 0
+    cond (ltb i (p .held .n)) (share (loss (p .held .k) accts (i + 1)) (total (heldBy p) accts)) 0
 
 -- what a period's days come to with one more: the last accepted day number, D, M and the sums take it in
 abbrev pub takenIn : Accrued → DayTerms → (top : ℕ) → (share : (i : ℕ) → ℕ) → Accrued
@@ -93,25 +94,25 @@ takenIn a terms top share =
       last = terms .number;
       days = a .days + 1;
       highest = max (a .highest) top;
-      sums = map (λ i. getD (a .sums) i 0 + share i) (range 0 32);
+      sums = plusEach (a .sums) share;
     }
 
 -- the period after it
 abbrev pub sizedPeriod : Period → DayInput → Period
-sizedPeriod p d = withAccrued p (takenIn (p .accrued) (d .terms) (maxEul (held p) (accountsBrought p d)) (shareAt p d))
+sizedPeriod p d = withAccrued p (takenIn (p .accrued) (d .terms) (maxEul (heldBy p) (accountsBrought p d)) (shareAt p d))
 
 -- A day "returns T and Max EUL" and writes "5 numbers a member". A refused one leaves the period and the buffer as before.
 pub record DayMeets (p : Period) (d : DayInput) (before : List ℕ) (r : Reply) (after : List ℕ) : Type 0 where
   pub answer :
       answerOf (r .outcome)
-      ≡ answerBy (dayRow p d (length before)) (total (held p) (accountsBrought p d) ∷ maxEul (held p) (accountsBrought p d) ∷ [])
+      ≡ answerBy (dayRow p d (length before)) (total (heldBy p) (accountsBrought p d) ∷ maxEul (heldBy p) (accountsBrought p d) ∷ [])
   pub period : r .period ≡ ifAccepted (dayRow p d (length before)) (sizedPeriod p d) p
-  pub buffer : after ≡ ifAccepted (dayRow p d (length before)) (dailies (held p) (accountsBrought p d)) before
+  pub buffer : after ≡ ifAccepted (dayRow p d (length before)) (dailies (heldBy p) (accountsBrought p d)) before
 
 -- ---- closing
 
 unfoldable pub closingRow : Period → (room : ℕ) → Refusal
-closingRow p room = closingRefusal (statusOf p) (held p) (p .accrued .days) room
+closingRow p room = closingRefusal (statusOf p) (heldBy p) (p .accrued .days) room
 
 -- the sums of the members' shares, and the raw charge for one of them
 abbrev pub sumsHeld : Period → List ℕ

@@ -10,6 +10,7 @@ use methodology::Refusal;
 use methodology::Status;
 use validation::limits::bad_opening;
 ghost use mathlib.Core.Path.{_≡_};
+ghost use mathlib.Core.Bool.{true};
 ghost use mathlib.Core.List.{List};
 ghost use lib.ListN.{length, getD, take};
 ghost use Rattle.headings.specs.Columns.{columns as columnsOf};
@@ -20,10 +21,11 @@ ghost use Rattle.period.specs.Reading.{brought, dayBrought};
 ghost use Prim.Native.Nat.{ℕ, _*_, _≤_, _<_};
 ghost use Rattle.methodology.specs.Day.{scale};
 ghost use Rattle.fund.specs.Shares.{shareIn};
-ghost use Rattle.period.specs.Plain.{isRefused, Refuses, beforeFigures, cutDay, withDay};
+ghost use Rattle.period.specs.Inner.{isRefused, Refuses, earlyRow, cutDay, withDay};
 ghost use Rattle.period.specs.Calls.{begunPeriod, freshPeriod, inRange, statusOf, openingRow, OpeningMeets, DayMeets, closingRow, ClosingMeets};
 
-// What the calls of a period have left. Its fields are private: a period is a fresh one, or one that calls returned.
+// What the calls of a period have left. Its fields are private: a period is a fresh one, or one that calls returned. The groups of the
+// opening that is held stand in 32 places, with 0 past the last.
 pub struct Period {
     status: Status,
     held: Opening,
@@ -141,12 +143,13 @@ impl Period {
 
     // The reply to a call that meets a row: its number, with its index if it has one, and the period as it was.
     fn refused(mut self, row: Refusal) -> Reply
+        requires { ⌜ isRefused row ≡ true ⌝ }
         ensures { λ r. ⌜ Refuses self row r ⌝ }
     {
         match row {
             Refusal::Clear => Reply {
                 period: self,
-                outcome: Outcome::Opened, // no row is met: never asked for
+                outcome: Outcome::Opened, // ruled out
             },
             Refusal::Row(number) => Reply {
                 period: self,
@@ -210,7 +213,7 @@ impl Period {
         room: usize,
     ) -> Refusal
         requires { ⌜ Even (now members) (now numbers) (now kinds) ⌝ }
-        ensures { λ r. ⌜ r ≡ beforeFigures self (plainDay terms (now (members .entry)) (now (numbers .entry)) (now (kinds .entry)) (now (npvs .entry)) (now (margins .entry)) (now (extras .entry))) room ⌝ }
+        ensures { λ r. ⌜ r ≡ earlyRow self (plainDay terms (now (members .entry)) (now (numbers .entry)) (now (kinds .entry)) (now (npvs .entry)) (now (margins .entry)) (now (extras .entry))) room ⌝ }
     {
         let status = self.status_of();
         if !is_open(status) {
@@ -243,8 +246,8 @@ impl Period {
     {
         let n = self.held.n as usize;
         let old = self.accrued;
-        let shares = old.sums;
-        let sums = fund::with_shares(shares, n, out);
+        let before = old.sums;
+        let sums = fund::with_shares(before, n, out);
         let highest = numbers::greater(old.highest, top);
         let accrued = Accrued {
             last: terms.number,

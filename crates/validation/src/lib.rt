@@ -54,7 +54,7 @@ pub fn day_rows(
 }
 
 // The rows of a day's accounts, in their order: 5, 6.
-fn account_rows(
+pub fn account_rows(
     opening: Opening,
     members: &[u64],
     numbers: &[u64],
@@ -84,8 +84,8 @@ fn account_rows(
 }
 
 // The index of the first bad heading, or the count of headings where none is bad. The period has n members.
-pub fn first_bad_heading(members: &[u64], numbers: &[u64], kinds: &[u64], n: u64) -> usize
-    requires { ⌜ (length (now numbers) ≡ length (now members)) × (length (now kinds) ≡ length (now members)) ⌝ }
+fn first_bad_heading(members: &[u64], numbers: &[u64], kinds: &[u64], n: u64) -> usize
+    requires { ⌜ Even (now members) (now numbers) (now kinds) ⌝ }
     ensures { λ r. ⌜ r ≡ firstBadHeading n nobody (headings (now (members .entry)) (now (numbers .entry)) (now (kinds .entry))) ⌝ }
 {
     let mut prev = Heading {
@@ -160,7 +160,7 @@ fn bad_after(prev: Heading, h: Heading) -> bool
 }
 
 // Whether the last members are missing: member n, at least, has no account.
-pub fn last_missing(members: &[u64], n: u64) -> bool
+fn last_missing(members: &[u64], n: u64) -> bool
     ensures { λ r. ⌜ ((numbers kinds : List ℕ) → r ≡ lastMissing n (headings (now (members .entry)) numbers kinds)) ⌝ }
 {
     let mut i = 0;
@@ -174,7 +174,7 @@ pub fn last_missing(members: &[u64], n: u64) -> bool
 }
 
 // The index of the first account with a bad amount, or the count of accounts where none is bad. Each has k + 1 NPVs.
-pub fn first_bad_amount(npvs: &[i64], margins: &[u64], extras: &[u64], k: usize) -> usize
+fn first_bad_amount(npvs: &[i64], margins: &[u64], extras: &[u64], k: usize) -> usize
     requires { ⌜ (k ≤ 16) × (length (now npvs) ≡ length (now margins) * (k + 1)) × (length (now extras) ≡ length (now margins)) ⌝ }
     ensures { λ r. ⌜ ((accts : List Account) → Amounts k (now (npvs .entry)) (now (margins .entry)) (now (extras .entry)) accts → r ≡ firstWhere badAmount accts) ⌝ }
 {

@@ -10,8 +10,8 @@ use Rattle.methodology.specs.Account.{DayInput}
 use Rattle.methodology.specs.Day.{total, dailies}
 use Rattle.validation.specs.Slices.{plainDay, Even}
 use Rattle.fund.proofs.Dailies.{dailies-long}
-use Rattle.period.specs.Calls.{held, accountsBrought}
-use Rattle.period.specs.Plain.{beforeFigures}
+use Rattle.period.specs.Calls.{heldBy, accountsBrought}
+use Rattle.period.specs.Inner.{earlyRow}
 use Rattle.period.proofs.Replies.{none-met, day-refused, day-refused-7, day-clear, day-accepted}
 use Rattle.period.proofs.Sizing.{Admits, admits, members-few, grouped, sums-fit, shares-few, taken-in, sizable, total-is, top-is, top-few, part, written}
 use Rattle.period.proofs.Period.plain_day.Statement.{statement}
@@ -24,7 +24,7 @@ abbrev day : tie.Start → DayInput
 day s = let a = s .args in plainDay (a .terms) (a .members .now) (a .numbers .now) (a .kinds .now) (a .npvs .now) (a .margins .now) (a .extras .now)
 
 -- where no row before 7 is met
-clear : (c : tie.Else1) → let s = at-start (c .before) in beforeFigures (s .args .self) (day s) (length (s .args .out .now)) ≡ Clear
+clear : (c : tie.Else1) → let s = at-start (c .before) in earlyRow (s .args .self) (day s) (length (s .args .out .now)) ≡ Clear
 clear c = sym (c .before .before .day-row .ensures) ∙ none-met _ (sym (c .before .is-refused .ensures) ∙ c .if1 .left)
 
 admitted : (c : tie.Else1) → let s = at-start (c .before) in Admits (s .args .self) (day s) (length (s .args .out .now))
@@ -37,13 +37,13 @@ even c = at-start (c .before) .pre
 abbrev open-at : tie.After-write-dailies → tie.Else1
 open-at w = w .before .before .before .before .before .before .before
 
-positive : (w : tie.After-write-dailies) → let s = at-start (open-at w .before) in 0 < total (held (s .args .self)) (accountsBrought (s .args .self) (day s))
+positive : (w : tie.After-write-dailies) → let s = at-start (open-at w .before) in 0 < total (heldBy (s .args .self)) (accountsBrought (s .args .self) (day s))
 positive w =
     let e = open-at w in
     let is = total-is (even e) (admitted e) _ (w .before .before .before .before .before .day-figures .ensures) in
     omega (arith, w .before .before .before .if2 .left)
 
-left-by : (w : tie.After-write-dailies) → let s = at-start (open-at w .before) in w .write-dailies .last .1 .1 .1 .1 .0 ≡ dailies (held (s .args .self)) (accountsBrought (s .args .self) (day s))
+left-by : (w : tie.After-write-dailies) → let s = at-start (open-at w .before) in w .write-dailies .last .1 .1 .1 .1 .0 ≡ dailies (heldBy (s .args .self)) (accountsBrought (s .args .self) (day s))
 left-by w =
     let e = open-at w in
     w .write-dailies .ensures ∙ written (even e) (admitted e) _ (w .before .before .before .before .before .day-figures .ensures)
@@ -90,7 +90,7 @@ with-day-requires c κs =
     let a = admitted e in
     let r = a .in-range in
     let after = left-by w in (
-      (members-few a, omega (arith, r .counted, r .month), ap length after ∙ dailies-long (held (at-start (e .before) .args .self)) _),
+      (members-few a, omega (arith, r .counted, r .month), ap length after ∙ dailies-long (heldBy (at-start (e .before) .args .self)) _),
       ((λ i h. rw after (shares-few (at-start (e .before) .args .self) (day (at-start (e .before))) (positive w) i h)), sums-fit a),
     )
 

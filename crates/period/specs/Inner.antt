@@ -1,5 +1,5 @@
 -- What the inner functions of a call say: a refusal, the rows of a day before its figures, a day in columns, a period with a day's figures.
-use mathlib.Core.Bool.{Bool, true, false, not, cond}
+use mathlib.Core.Bool.{Bool, true, false, cond}
 use mathlib.Core.List.{List, []}
 use mathlib.Core.Path.{_≡_}
 use Prim.Native.Nat.{ℕ}
@@ -10,14 +10,14 @@ use Rattle.methodology.specs.declared.DayTerms.{DayTerms}
 use Rattle.methodology.specs.declared.Refusal.{Refusal}
 use Rattle.methodology.specs.declared.Refusal.the-variants.{Clear, Row, RowAt}
 use Rattle.methodology.specs.Account.{DayInput}
-use Rattle.methodology.specs.Refusals.{row_when_else_, isOpen, badOutput, dayRows}
+use Rattle.methodology.specs.Refusals.{beforeFigures}
 use Rattle.methodology.specs.Register.{answerBy}
 use Rattle.validation.specs.Slices.{plainDay}
 use Rattle.fund.specs.Shares.{shareIn}
 use Rattle.period.specs.declared.Period.{Period}
 use Rattle.period.specs.declared.Reply.{Reply}
 use Rattle.period.specs.Reading.{answerOf}
-use Rattle.period.specs.Calls.{held, statusOf, withAccrued, takenIn}
+use Rattle.period.specs.Calls.{heldBy, statusOf, withAccrued, takenIn}
 
 abbrev pub isRefused : Refusal → Bool
 isRefused Clear = false
@@ -29,12 +29,9 @@ pub record Refuses (p : Period) (met : Refusal) (r : Reply) : Type 0 where
   pub answer : answerOf (r .outcome) ≡ answerBy met []
   pub period : r .period ≡ p
 
--- the refusal table's rows of a day but for row 7, which needs its figures
-unfoldable pub beforeFigures : Period → DayInput → (room : ℕ) → Refusal
-beforeFigures p d room =
-    row 2 when not (isOpen (statusOf p)) else
-    row 4 when badOutput (held p) room else
-    dayRows (held p) (p .accrued .last) d
+-- the refusal table's rows of a day but for row 7, which needs its figures, read with what the period holds
+unfoldable pub earlyRow : Period → DayInput → (room : ℕ) → Refusal
+earlyRow p d room = beforeFigures (statusOf p) (heldBy p) (p .accrued .last) d room
 
 -- a day of n headings in three columns of 256 places: members, account numbers, kinds
 abbrev pub cutDay : DayTerms → (n : ℕ) → (columns : List ℕ) → (npvs : List ℤ) → (margins extras : List ℕ) → DayInput
