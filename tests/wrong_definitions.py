@@ -138,6 +138,7 @@ Refusals.badAmount | any npvOutside (a .npvs) | any npvOutside (take 16 (a .npvs
 Refusals.firstNotZero | not (eqb (prev .member) (h .member)) && | ltb 0 (prev .member) && not (eqb (prev .member) (h .member)) &&
 Refusals.memberSkipped | ltb (prev .member + 1) (h .member) | eqb (prev .member + 2) (h .member)
 Refusals.dayRows | row 3 when badDayNumber last (d .terms .number) else⏎accountRows o d | row 3 when outside 1 31 (d .terms .number) else⏎rows-of accountRows o d else⏎row 3 when leb (d .terms .number) last else⏎Clear
+Refusals.beforeFigures | row 4 when badOutput o room else⏎dayRows o last d | rows-of dayRows o last d else⏎row 4 when badOutput o room else⏎Clear
 Refusals.dayRows | row 3 when badDayNumber last (d .terms .number) else⏎accountRows o d | rows-of accountRows o d else⏎row 3 when badDayNumber last (d .terms .number) else⏎Clear
 Register.accept | status = Open; held = o; days = [] | status = Open; held = o; days = cond (eqb (o .n) (g .held .n)) (g .days) []
 Register.accept | held = o; days = [] | held = withGroups o (cond (eqb (o .n) (g .held .n)) (g .held .groups) (o .groups)); days = []
