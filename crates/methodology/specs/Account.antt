@@ -30,9 +30,9 @@ members n = range 1 n
 abbrev pub scenarios : (k : ℕ) → List ℕ
 scenarios k = range 1 k
 
--- What a day brings: its terms (`DayTerms`, declared in src/lib.rt), which are its number, and in four lent slices its accounts. "No field may be missing." "The headings of a
--- day's accounts (member, account number, kind) come as a lent slice of records [..]; the NPVs come as one lent slice of signed 64-bit
--- numbers [..]; margins and extras come in two further slices, one number an account."
+-- What a day brings: its terms (`DayTerms`, declared in src/lib.rt), which are its number, and in four lent slices its accounts. "No field
+-- may be missing." "The headings of a day's accounts (member, account number, kind) come as a lent slice of records [..]; the NPVs come as
+-- one lent slice of signed 64-bit numbers [..]; margins and extras come in two further slices, one number an account."
 pub record DayInput : Type 0 where
   pub terms : DayTerms
   pub headings : List Heading

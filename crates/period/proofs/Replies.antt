@@ -76,13 +76,21 @@ module _ (p : Period) (out : List ℕ) where
 
   pub closing-refused : {r : Reply} (x : Refusal) → x ≡ closingRow p (length out) → isRefused x ≡ true → Refuses p x r → ClosingMeets p out r out
   closing-refused x e t r =
-      record { answer = rw (sym e) (refused-answer x _ t (r .answer)); period = rw (sym e) (refused-alone x (closedPeriod p) t (r .period)); buffer = rw (sym e) (refused-alone x _ t refl) }
+      record {
+        answer = rw (sym e) (refused-answer x _ t (r .answer));
+        period = rw (sym e) (refused-alone x (closedPeriod p) t (r .period));
+        buffer = rw (sym e) (refused-alone x _ t refl);
+      }
 
 -- a day, where row 7 alone is left
 module _ (p : Period) (d : DayInput) (out : List ℕ) where
   refused-by : {r : Reply} (x : Refusal) → x ≡ dayRow p d (length out) → isRefused x ≡ true → Refuses p x r → DayMeets p d out r out
   refused-by x e t r =
-      record { answer = rw (sym e) (refused-answer x _ t (r .answer)); period = rw (sym e) (refused-alone x _ t (r .period)); buffer = rw (sym e) (refused-alone x _ t refl) }
+      record {
+        answer = rw (sym e) (refused-answer x _ t (r .answer));
+        period = rw (sym e) (refused-alone x _ t (r .period));
+        buffer = rw (sym e) (refused-alone x _ t refl);
+      }
 
   pub day-refused : {r : Reply} (x : Refusal) → x ≡ earlyRow p d (length out) → isRefused x ≡ true → Refuses p x r → DayMeets p d out r out
   day-refused x e t = refused-by x (sym (split-off p d (length out) ∙ rw (sym e) (refused-first x _ t))) t

@@ -86,7 +86,8 @@ module _ {p : Period} {d : DayInput} {room : ℕ} (s : Admits p d room) where
 
   good-amount : (a : Account) → a ∈ accountsBrought p d → badAmount a ≡ false
   good-amount =
-      by-index (λ a. badAmount a ≡ false) (accountsBrought p d) none (λ i h. first-before badAmount (accountsBrought p d) i none (omega (arith, s .rows .amounts, accounts-long (p .held .k) d)))
+      by-index (λ a. badAmount a ≡ false) (accountsBrought p d) none
+      (λ i h. first-before badAmount (accountsBrought p d) i none (omega (arith, s .rows .amounts, accounts-long (p .held .k) d)))
 
   pub total-few : total (heldBy p) (accountsBrought p d) ≤ greatestTotal
   total-few =
@@ -107,7 +108,8 @@ module _ (p : Period) (d : DayInput) (positive : 0 < total (heldBy p) (accountsB
 -- the shares of a day, in what it wrote
 module _ (p : Period) (d : DayInput) where
   written-at : (i : ℕ) (t : Bool) → ltb i (p .held .n) ≡ t
-      → cond t (shareIn (dailies (heldBy p) (accountsBrought p d)) i) 0 ≡ cond t (share (loss (p .held .k) (accountsBrought p d) (i + 1)) (total (heldBy p) (accountsBrought p d))) 0
+      → cond t (shareIn (dailies (heldBy p) (accountsBrought p d)) i) 0
+      ≡ cond t (share (loss (p .held .k) (accountsBrought p d) (i + 1)) (total (heldBy p) (accountsBrought p d))) 0
   written-at i true q =
       share-written (heldBy p) (accountsBrought p d) i (ltb-true i (p .held .n) q)
       ∙ ap (λ (m : ℕ). share (loss (p .held .k) (accountsBrought p d) m) (total (heldBy p) (accountsBrought p d))) (add-comm 1 i)
@@ -120,7 +122,8 @@ module _ (p : Period) (d : DayInput) where
   shares-few positive i h = rw (sym (share-at i), lt-ltb i (p .held .n) h) at (share-few p d positive i)
 
   -- so the period that takes them in is the one that the accounts give
-  pub taken-in : (top : ℕ) → top ≡ maxEul (heldBy p) (accountsBrought p d) → (out : List ℕ) → out ≡ dailies (heldBy p) (accountsBrought p d) → withDay p (d .terms) top out ≡ sizedPeriod p d
+  pub taken-in : (top : ℕ) → top ≡ maxEul (heldBy p) (accountsBrought p d) → (out : List ℕ) → out ≡ dailies (heldBy p) (accountsBrought p d)
+      → withDay p (d .terms) top out ≡ sizedPeriod p d
   taken-in top e out w =
       rw (e, w) (ap (withAccrued p) (by-fields refl refl refl (map-eq _ _ (range 0 32) (λ i m. ap (λ (x : ℕ). getD (p .accrued .sums) i 0 + x) (share-at i)))))
 

@@ -23,7 +23,12 @@ bad-held-requires c κs = search needs
 
 returns-4 : tie.Need-returns-4
 unfolding inRange
-returns-4 c = rw (le-leb _ _ (c .before .before .before .before .before .before .before .if1 .left), le-leb _ _ (c .before .before .before .before .before .if2 .left), le-leb _ _ (c .before .before .before .if3 .left), sym (c .before .bad-held .ensures) ∙ c .if4 .taken)
+returns-4 c =
+    let third = c .before .before .before in
+    let second = third .before .before in
+    let first = second .before .before in
+    let bad = sym (c .before .bad-held .ensures) ∙ c .if4 .taken in
+    rw (le-leb _ _ (first .if1 .left), le-leb _ _ (second .if2 .left), le-leb _ _ (third .if3 .left), bad)
 
 mul-sums-above : tie.Need-mul-sums-above
 mul-sums-above c = search needs
@@ -33,7 +38,13 @@ sums-above-requires c κs = search needs
 
 returns-5 : tie.Need-returns-5
 unfolding inRange
-returns-5 c = rw (le-leb _ _ (c .before .before .before .before .before .before .before .before .before .before .if1 .left), le-leb _ _ (c .before .before .before .before .before .before .before .before .if2 .left), le-leb _ _ (c .before .before .before .before .before .before .if3 .left), sym (c .before .before .before .before .bad-held .ensures) ∙ c .before .before .before .if4 .left, c .sums-above .ensures)
+returns-5 c =
+    let fourth = c .before .before .before in
+    let third = fourth .before .before .before in
+    let second = third .before .before in
+    let first = second .before .before in
+    let good = sym (fourth .before .bad-held .ensures) ∙ fourth .if4 .left in
+    rw (le-leb _ _ (first .if1 .left), le-leb _ _ (second .if2 .left), le-leb _ _ (third .if3 .left), good, c .sums-above .ensures)
 
 pub in-range-spec : {M : Type 1} → statement M
 in-range-spec =
