@@ -203,6 +203,7 @@ fresh-does =
       clauses = λ 𝓤 H A mem run κs a. refl;
     }
 
+-- Each clause holds by computation but for the opening's, to which `Meets` adds that it leaves no buffer: `no-buffer` says that this adds nothing.
 upholds : (f : Method) → Upholds (compiled f) (Promised f)
 upholds opening =
     record {
