@@ -43,7 +43,7 @@ use Rattle.period.proofs.Period.closing.Met as closing-proved
 use Rattle.period.proofs.Simulation.{starts}
 use Rattle.demand3.specs.Made.{Asked, Made, callOf, Meets, MadeOn}
 use Rattle.demand3.specs.Demand3.{Covers, Holds, registerAfter, Narrow, CanBeMade}
-use Rattle.demand3.proofs.Lists.{holds, last-closing}
+use Rattle.demand3.proofs.EveryList.{holds, last-closing}
 use Rattle.demand3.proofs.Fitting.{narrow-fresh, can-be-made}
 use Rattle.demand3.proofs.Facts.{Ensured, fact-holds, period-set, opening-prop, meets-prop, no-buffer}
 use Rattle.demand3.proofs.Returns.{Returns, returns}

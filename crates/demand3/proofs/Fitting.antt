@@ -25,7 +25,7 @@ use Rattle.methodology.specs.Refusals.{row_when_else_, row_at_when_else_, rows-
 use Rattle.methodology.specs.Register.{ifAccepted, accepted, answerBy}
 use Rattle.methodology.proofs.Passed.{passed, either}
 use Rattle.quotient.specs.Ranges.{greatestTotal}
-use Rattle.quotient.proofs.Bounds.{share-le, cents-le, raw-le}
+use Rattle.quotient.proofs.QuotientBounds.{share-le, cents-le, raw-le}
 use Rattle.validation.specs.Slices.{inPlaces}
 use Rattle.validation.proofs.Headings.{bad-heading-le}
 use Rattle.validation.proofs.OpeningPasses.{opening-leaves}
@@ -38,7 +38,7 @@ use Rattle.period.specs.declared.Reply.{Reply}
 use Rattle.period.specs.Reading.{answerOf}
 use Rattle.period.specs.Calls.{freshPeriod, heldBy, inRange, statusOf, openingRow, openedPeriod, accountsBrought, dayRow, shareAt, sizedPeriod, closingRow, sumsHeld, chargeBy, closedPeriod}
 use Rattle.fund.proofs.Dailies.{dailies-long}
-use Rattle.period.proofs.Ranges.{ranged}
+use Rattle.period.proofs.InRange.{ranged}
 use Rattle.period.proofs.Sizing.{Admits, passes-all, total-few}
 use Rattle.period.proofs.Closings.{Closable, closable, in-range}
 use Rattle.period.proofs.Reach.{sized-in-range}

@@ -1,5 +1,5 @@
 mod Covering
-mod Lists
+mod EveryList
 mod Fitting
 pub mod Facts
 pub mod Returns

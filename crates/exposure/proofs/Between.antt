@@ -10,8 +10,8 @@ use Rattle.numbers.proofs.Lists.{part-length}
 use Rattle.methodology.specs.Account.{Account}
 use Rattle.validation.specs.Slices.{Lent, Within}
 use Rattle.validation.proofs.Parts.{within-part, lent-part}
-use Rattle.exposure.specs.Cut.{between}
-use Rattle.exposure.specs.Member.{MemberEul}
+use Rattle.exposure.specs.MemberCut.{between}
+use Rattle.exposure.specs.MemberEul.{MemberEul}
 use Rattle.exposure.specs.DayFigures.{EulIs}
 
 module _ {k a b : ℕ} {kinds : List ℕ} {npvs : List ℤ} {margins extras : List ℕ} (w : Within k kinds npvs margins extras) (h : a ≤ b) (l : b ≤ length kinds) where

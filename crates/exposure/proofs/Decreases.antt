@@ -17,7 +17,7 @@ use Rattle.numbers.proofs.Lists.{upto-more, mem-range}
 use Rattle.numbers.proofs.Sums.{greatest-le, greatest-snoc}
 use Rattle.methodology.specs.Account.{decrease, largestDecrease}
 use Rattle.methodology.specs.Refusals.{limit}
-use Rattle.exposure.specs.Ranges.{Npvs}
+use Rattle.exposure.specs.AccountRanges.{Npvs}
 use Rattle.exposure.specs.Scenario.{fallUnder}
 
 -- an NPV that is read from a slice is the slice's

@@ -13,7 +13,7 @@ use Rattle.methodology.specs.Member.{loss}
 use Rattle.methodology.specs.Day.{total, maxEul}
 use Rattle.validation.specs.Slices.{Lent}
 use Rattle.exposure.specs.declared.day.Losses.{Losses}
-use Rattle.exposure.specs.Cut.{Owners}
+use Rattle.exposure.specs.MemberCut.{Owners}
 use Rattle.exposure.specs.DayFigures.{LossesAre}
 use Rattle.exposure.proofs.MaxTotal.{loss-le-total, max-le-total}
 

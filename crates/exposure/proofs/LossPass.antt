@@ -18,7 +18,7 @@ use Rattle.methodology.specs.Member.{loss}
 use Rattle.methodology.specs.Refusals.{limit}
 use Rattle.validation.specs.Slices.{Lent}
 use Rattle.exposure.specs.Scenario.{eulBy}
-use Rattle.exposure.specs.Cut.{Owners, Cut, between}
+use Rattle.exposure.specs.MemberCut.{Owners, Cut, between}
 use Rattle.exposure.specs.DayFigures.{Sizable, EulIs, LossesAre}
 use Rattle.exposure.proofs.Members.{cut-start, own-part, loss-of}
 

@@ -20,7 +20,7 @@ use Rattle.methodology.specs.Member.{memberUnder}
 use Rattle.methodology.specs.Day.{groupNumber}
 use Rattle.methodology.specs.Refusals.{limit}
 use Rattle.validation.specs.Slices.{listed, Lent}
-use Rattle.exposure.specs.Cut.{Owners, Cut, between}
+use Rattle.exposure.specs.MemberCut.{Owners, Cut, between}
 use Rattle.exposure.specs.GroupRows.{rowOf, plus, Near, Shape, withRow}
 use Rattle.exposure.specs.DayFigures.{Sizable, RowIs, Grouped, MaxIs}
 use Rattle.exposure.proofs.Members.{cut-start, cut-inside, own-part, under-of}

@@ -25,10 +25,10 @@ use Rattle.methodology.specs.Member.{isClient, isR, houseEul, halfOfClients, tw
 use Rattle.methodology.specs.Refusals.{limit}
 use Rattle.validation.specs.Slices.{none, Lent, Within}
 use Rattle.exposure.specs.declared.member.Tally.{Tally}
-use Rattle.exposure.specs.Ranges.{Npvs, Owed}
+use Rattle.exposure.specs.AccountRanges.{Npvs, Owed}
 use Rattle.exposure.specs.Scenario.{fallUnder, eulBy}
 use Rattle.exposure.specs.Tally.{largestOfR, eulOver, TallyOf, Small, TallyWith, Ended}
-use Rattle.exposure.specs.Member.{MemberEul}
+use Rattle.exposure.specs.MemberEul.{MemberEul}
 use Rattle.exposure.proofs.Decreases.{fall-le}
 use Rattle.exposure.proofs.Bounds.{eul-abs}
 

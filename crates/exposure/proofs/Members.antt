@@ -14,7 +14,7 @@ use Rattle.numbers.proofs.Lists.{by-steps, map-at, keep-part}
 use Rattle.methodology.specs.Account.{Account, eulUnder, ownEul}
 use Rattle.methodology.specs.Member.{accountsOf, memberEul, memberUnder, memberOwn, loss}
 use Rattle.validation.specs.Slices.{Rising, none}
-use Rattle.exposure.specs.Cut.{Owners, Below, Cut, between}
+use Rattle.exposure.specs.MemberCut.{Owners, Below, Cut, between}
 use Rattle.exposure.specs.DayFigures.{Sizable}
 
 -- rising one by one is rising

@@ -18,7 +18,7 @@ use Rattle.methodology.specs.Member.{memberEul}
 use Rattle.methodology.specs.Refusals.{limit}
 use Rattle.validation.specs.Slices.{Lent}
 use Rattle.exposure.specs.Scenario.{eulBy}
-use Rattle.exposure.specs.Cut.{between}
+use Rattle.exposure.specs.MemberCut.{between}
 use Rattle.exposure.specs.DayFigures.{EulIs, RowIs}
 use Rattle.exposure.proofs.Tables.{is-row}
 

@@ -14,7 +14,7 @@ use Rattle.validation.specs.Slices.{listed, Lent, Within, Rising}
 use Rattle.exposure.specs.declared.day.Losses.{Losses}
 use Rattle.exposure.specs.declared.day.Figures.{Figures}
 use Rattle.exposure.specs.Scenario.{eulBy}
-use Rattle.exposure.specs.Cut.{Owners, between}
+use Rattle.exposure.specs.MemberCut.{Owners, between}
 use Rattle.exposure.specs.GroupRows.{rowOf}
 
 -- slices of a day of a period with n members and k scenarios, as rows 1 and 4 to 6 of the refusal table leave them

@@ -1,7 +1,7 @@
-pub mod Ranges
+pub mod AccountRanges
 pub mod Scenario
 pub mod Tally
-pub mod Member
+pub mod MemberEul
 pub mod GroupRows
-pub mod Cut
+pub mod MemberCut
 pub mod DayFigures

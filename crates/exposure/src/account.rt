@@ -7,7 +7,7 @@ ghost use lib.ListN.{length};
 ghost use Rattle.numbers.specs.Signed.{_⁺};
 ghost use Rattle.methodology.specs.Account.{largestDecrease, eulOf};
 ghost use Rattle.methodology.specs.Refusals.{limit};
-ghost use Rattle.exposure.specs.Ranges.{Npvs, Owed};
+ghost use Rattle.exposure.specs.AccountRanges.{Npvs, Owed};
 ghost use Rattle.exposure.specs.Scenario.{fallUnder};
 
 // Base minus stress, or 0 where that is negative.

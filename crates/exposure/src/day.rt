@@ -9,7 +9,7 @@ use numbers::greater;
 ghost use Prim.Native.Nat.{_+_, _≤_};
 ghost use lib.ListN.{length};
 ghost use Rattle.validation.specs.Slices.{Within, Rising};
-ghost use Rattle.exposure.specs.Cut.{Cut};
+ghost use Rattle.exposure.specs.MemberCut.{Cut};
 ghost use Rattle.exposure.specs.DayFigures.{Sizable, EulIs, RowIs, LossesAre, Grouped, MaxIs, FiguresAre};
 
 // The end of member m's accounts, which start at `at`.

@@ -15,7 +15,7 @@ ghost use Rattle.methodology.specs.Account.{kindR, kindU};
 ghost use Rattle.methodology.specs.Refusals.{limit};
 ghost use Rattle.validation.specs.Slices.{Within};
 ghost use Rattle.exposure.specs.Tally.{Small, TallyWith, Ended};
-ghost use Rattle.exposure.specs.Member.{MemberEul};
+ghost use Rattle.exposure.specs.MemberEul.{MemberEul};
 
 // An EUL, or 0 where that is negative.
 pub fn gain(eul: i64) -> u64

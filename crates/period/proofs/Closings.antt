@@ -13,7 +13,7 @@ use Rattle.quotient.specs.Ranges.{Charge}
 use Rattle.validation.proofs.OpeningPasses.{opening-leaves}
 use Rattle.period.specs.declared.Period.{Period}
 use Rattle.period.specs.Calls.{heldBy, statusOf, closingRow}
-use Rattle.period.proofs.Ranges.{Ranged, ranged, open-in-range}
+use Rattle.period.proofs.InRange.{Ranged, ranged, open-in-range}
 
 pub record Closable (p : Period) (room : ℕ) : Type 0 where
   pub opened : isOpen (statusOf p) ≡ true

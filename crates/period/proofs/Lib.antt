@@ -1,9 +1,9 @@
 mod ByFields
 pub mod Replies
-pub mod Ranges
+pub mod InRange
 pub mod Sizing
 pub mod Closings
-mod Columns
+mod DayInColumns
 mod PassedOn
 pub mod Reach
 pub mod Simulation

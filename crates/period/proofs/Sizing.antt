@@ -20,14 +20,14 @@ use Rattle.methodology.specs.Day.{total, maxEul, scale, share, five, dailies}
 use Rattle.methodology.specs.Refusals.{isOpen, badOutput, badAmount, beforeFigures}
 use Rattle.methodology.proofs.Passed.{passed, passed-rows}
 use Rattle.quotient.specs.Ranges.{Loss, greatestTotal}
-use Rattle.quotient.proofs.Bounds.{share-le}
+use Rattle.quotient.proofs.QuotientBounds.{share-le}
 use Rattle.validation.specs.Slices.{plainDay, Even, Lent, none}
 use Rattle.validation.specs.Passing.{Sized, Passes}
 use Rattle.validation.proofs.Headings.{headings-length}
 use Rattle.validation.proofs.OpeningPasses.{opening-leaves}
 use Rattle.validation.proofs.DayPasses.{sized, passes, accounts-long, accounts-lent, accounts-members}
 use Rattle.exposure.specs.declared.day.Figures.{Figures}
-use Rattle.exposure.specs.Cut.{Owners}
+use Rattle.exposure.specs.MemberCut.{Owners}
 use Rattle.exposure.specs.DayFigures.{Sizable, Grouped, FiguresAre}
 use Rattle.exposure.proofs.Bounds.{total-small}
 use Rattle.exposure.proofs.MaxTotal.{loss-le-total}
@@ -39,7 +39,7 @@ use Rattle.fund.proofs.Dailies.{are-dailies, share-written}
 use Rattle.period.specs.declared.Period.{Period}
 use Rattle.period.specs.Calls.{heldBy, statusOf, accountsBrought, dayRow, shareAt, withAccrued, sizedPeriod}
 use Rattle.period.specs.Inner.{earlyRow, withDay}
-use Rattle.period.proofs.Ranges.{Ranged, ranged, open-in-range}
+use Rattle.period.proofs.InRange.{Ranged, ranged, open-in-range}
 use Rattle.period.proofs.ByFields.{by-fields}
 use Rattle.period.proofs.Replies.{split-off}
 

@@ -11,7 +11,7 @@ use Rattle.numbers.proofs.Sums.{Σ-more}
 use Rattle.methodology.specs.Day.{scale}
 use Rattle.methodology.specs.Contribution.{charge, funded, three}
 use Rattle.quotient.specs.Ranges.{Charge, greatestTotal}
-use Rattle.quotient.proofs.Bounds.{raw-le}
+use Rattle.quotient.proofs.QuotientBounds.{raw-le}
 use Rattle.fund.proofs.write_contributions.Statement.{statement}
 use Rattle.fund.proofs.write_contributions.Tie as tie
 

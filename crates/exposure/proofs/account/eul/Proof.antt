@@ -8,7 +8,7 @@ use mir.Val.{SFits}
 use mir.ValLaws.{toZ-pos}
 use Rattle.numbers.proofs.Signed.{signed, add, sub, →sfits, back}
 use Rattle.methodology.specs.Account.{eulOf}
-use Rattle.exposure.specs.Ranges.{Owed}
+use Rattle.exposure.specs.AccountRanges.{Owed}
 use Rattle.exposure.proofs.account.eul.Statement.{statement}
 use Rattle.exposure.proofs.account.eul.Tie as tie
 

@@ -3,7 +3,7 @@ use borrow.Author.Needs.{needs}
 use Prim.Native.Nat.{_+_, _-_, _≤_}
 use native.Mathlib.Omega.{arith}
 use lib.ListN.{length}
-use Rattle.exposure.specs.Cut.{Below}
+use Rattle.exposure.specs.MemberCut.{Below}
 use Rattle.exposure.proofs.Members.{below-start, below-more, cut-next}
 use Rattle.exposure.proofs.day.end_of.Statement.{statement}
 use Rattle.exposure.proofs.day.end_of.Tie as tie

@@ -7,7 +7,7 @@ use borrow.Author.Tests.{eq-eqb, ne-eqb, not-true, not-false}
 use Rattle.methodology.specs.Refusals.{row_when_else_, isOpen, closingRefusal}
 use Rattle.validation.proofs.OpeningPasses.{opening-leaves}
 use Rattle.period.specs.Calls.{statusOf, closingRow}
-use Rattle.period.proofs.Ranges.{ranged, open-in-range}
+use Rattle.period.proofs.InRange.{ranged, open-in-range}
 use Rattle.period.proofs.Period.closing_row.Statement.{statement}
 use Rattle.period.proofs.Period.closing_row.Tie as tie
 

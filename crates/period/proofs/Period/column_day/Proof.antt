@@ -1,6 +1,6 @@
 -- `column_day` meets its contract: the columns, cut to the number of headings, are the headings.
 use borrow.Author.Needs.{needs}
-use Rattle.period.proofs.Columns.{counted-few, columns-meet}
+use Rattle.period.proofs.DayInColumns.{counted-few, columns-meet}
 use Rattle.period.proofs.Period.column_day.Statement.{statement}
 use Rattle.period.proofs.Period.column_day.Tie as tie
 

@@ -1,6 +1,6 @@
 -- `cut_day` meets its contract: the three columns, cut to n places, are slices of one length.
 use borrow.Author.Needs.{needs}
-use Rattle.period.proofs.Columns.{first-long, even-parts, cut-meets}
+use Rattle.period.proofs.DayInColumns.{first-long, even-parts, cut-meets}
 use Rattle.period.proofs.Period.cut_day.Statement.{statement}
 use Rattle.period.proofs.Period.cut_day.Tie as tie
 

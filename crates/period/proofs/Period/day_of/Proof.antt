@@ -2,7 +2,7 @@
 use borrow.Author.Needs.{needs}
 use mathlib.Core.Path.{_≡_}
 use lib.ListN.{length}
-use Rattle.period.proofs.Columns.{within-meets}
+use Rattle.period.proofs.DayInColumns.{within-meets}
 use Rattle.period.proofs.Period.day_of.Statement.{statement}
 use Rattle.period.proofs.Period.day_of.Tie as tie
 

@@ -9,7 +9,7 @@ use Rattle.validation.specs.Passing.{Opened}
 use Rattle.validation.proofs.OpeningPasses.{opening-leaves}
 use Rattle.period.specs.Calls.{heldBy, statusOf}
 use Rattle.period.specs.Inner.{earlyRow}
-use Rattle.period.proofs.Ranges.{ranged, open-in-range}
+use Rattle.period.proofs.InRange.{ranged, open-in-range}
 use Rattle.period.proofs.Period.day_row.Statement.{statement}
 use Rattle.period.proofs.Period.day_row.Tie as tie
 
