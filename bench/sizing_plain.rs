@@ -373,6 +373,7 @@ impl Period {
         self.max_eul = self.max_eul.max(max_eul);
         self.days += 1;
         report.line(b"day", &[number, total, max_eul]);
+        let mut sums = [0; 5];
         for (i, &loss) in day.losses[..self.n].iter().enumerate() {
             let share = (u128::from(loss) * SHARE).div_ceil(u128::from(total)) as u64;
             self.shares[i] += share;
@@ -382,7 +383,11 @@ impl Period {
             let estimate = nearest(220 * product, total);
             let member = i as u64 + 1;
             report.line(b"daily", &[member, loss, share, value, reserve, estimate]);
+            for (sum, figure) in sums.iter_mut().zip([loss, share, value, reserve, estimate]) {
+                *sum += figure;
+            }
         }
+        report.line(b"total", &sums);
         Ok(())
     }
 

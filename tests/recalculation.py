@@ -1,5 +1,5 @@
 #!/usr/bin/env python3
-"""Document 01 recalculated in its own order, with exact fractions.
+"""Document 01, with Change 1 of document 02, recalculated in its own order, with exact fractions.
 
 Reads a month's text on standard input and writes the report on standard output.
 """
@@ -270,6 +270,7 @@ def one_day(lines, day_line, k, period, say):
     say("day", day, t, greatest)
     for i, figures in enumerate(fives, 1):
         say("daily", i, *figures)
+    say("total", *map(sum, zip(*fives)))        # document 02, Change 1
 
 
 def call(made, line_of, first=None):

@@ -9,7 +9,7 @@ use Rattle.methodology.specs.declared.Refusal.the-variants.{Clear}
 use Rattle.methodology.specs.declared.Opening.{Opening}
 use Rattle.methodology.specs.Account.{DayInput}
 use Rattle.methodology.specs.Register.{Call, Register, start, refusal, accept, step, returned, written, answerBy, answer, buffer}
-use Rattle.methodology.specs.Text.{bytes, printed, refusedLine, rows, dayLines, fundLines, Expected, day, opened as Text·opened, sized as Text·sized, closed as Text·closed, followedBy}
+use Rattle.methodology.specs.Text.{refusedLine, dayLines, fundLines, Expected, day, opened as Text·opened, sized as Text·sized, closed as Text·closed, followedBy}
 use Rattle.period.specs.declared.Outcome.{Outcome}
 use Rattle.period.specs.declared.Outcome.the-variants.{Closed}
 use Rattle.period.specs.declared.Period.{Period}
@@ -87,10 +87,8 @@ module _ (n k : ℕ) (g : Register) (period : Period) (h : InStep g period n k) 
     written-is = follows .2 ∙ rw c
 
     lines-are : (total max : ℕ) → returned (step g call) call ≡ total ∷ max ∷ []
-        → dayLines (step g call) d (5 * g .held .n) ≡ printed (bytes "day") (d .terms .number ∷ total ∷ max ∷ []) ++ rows (bytes "daily") 5 n figures
-    unfolding dayLines
-    lines-are total max e =
-        rw (e, ← written-is) (ap (λ (x : ℕ). printed (bytes "day") (d .terms .number ∷ total ∷ max ∷ []) ++ rows (bytes "daily") 5 x figures) (still-in-step .members))
+        → dayLines (d .terms .number) (step g call .held .n) (returned (step g call) call) (written (step g call) call) ≡ dayLines (d .terms .number) n (total ∷ max ∷ []) figures
+    lines-are total max e = rw (e, ← written-is, still-in-step .members)
 
   pub day-said : (rest : Expected → List ℕ) → followedBy (Text·sized (refusal g call) g d line) rest
       ≡ said (r .outcome) (d .terms .number) line n figures ++ cond (isOver (r .outcome)) [] (rest (day (step g call)))
@@ -136,13 +134,13 @@ module _ (n k : ℕ) (g : Register) (period : Period) (h : InStep g period n k) 
   last-told e = sym (last-follows .0) ∙ ap answerOf e
 
   fund-is : (days highest funds : ℕ) → r .outcome ≡ Closed days highest funds
-      → Text·closed (refusal g last) g line ≡ printed (bytes "fund") (days ∷ highest ∷ funds ∷ []) ++ rows (bytes "contribution") 3 n figures
-  unfolding Text·closed fundLines buffer
+      → Text·closed (refusal g last) g line ≡ fundLines n (days ∷ highest ∷ funds ∷ []) figures
+  unfolding Text·closed buffer
   fund-is days highest funds e =
       let (c, f) = is-clear (refusal g last) _ _ (last-told e) in
       let members : step g last .held .n ≡ n = ap (λ (x : Register). x .held .n) (step-clear g last c) ∙ ap (λ (o : Opening). o .n) (closing-kept g (3 * g .held .n)) ∙ h .members in
       let w : figures ≡ written (step g last) last = last-follows .1 ∙ rw c in
-      rw (c, f, ← w) (ap (λ (x : ℕ). printed (bytes "fund") (days ∷ highest ∷ funds ∷ []) ++ rows (bytes "contribution") 3 x figures) members)
+      rw (c, f, ← w, members)
 
   pub closing-said : Text·closed (refusal g last) g line ≡ said (r .outcome) 0 line n figures
   unfolding Text·closed said

@@ -1,3 +1,4 @@
+pub mod Columns
 pub mod RefusalRows
 pub mod Outcomes
 pub mod CallsSaid

@@ -1,19 +1,19 @@
 -- Which outcomes each call can have. Its answer has as many figures as the call returns, and rows 5 and 6 of a day alone give an index.
-use mathlib.Core.Path.{_≡_, refl, sym, ap}
+use mathlib.Core.Path.{_≡_, refl, sym, ap, subst, _∙_}
 use mathlib.Core.Bool.{Bool, true, false, not, _||_, cond}
 use mathlib.Core.List.{List, [], _∷_}
-use Prim.Native.Nat.{ℕ, _+_, _*_, _≤_}
+use Prim.Native.Nat.{ℕ, _+_, _*_, _^_, _≤_, _<_}
 use native.Mathlib.Omega.{arith}
 use lib.Dec.{eqb, ltb}
-use lib.ListN.{length}
-use Rattle.numbers.specs.Lists.{firstWhere}
+use lib.ListN.{length, getD}
+use Rattle.numbers.specs.Lists.{firstWhere, Every}
 use Rattle.numbers.proofs.Lists.{first-le}
 use Rattle.methodology.specs.declared.Refusal.{Refusal}
 use Rattle.methodology.specs.declared.Refusal.the-variants.{Clear, Row, RowAt}
 use Rattle.methodology.specs.declared.Status.{Status}
 use Rattle.methodology.specs.declared.Opening.{Opening}
 use Rattle.methodology.specs.Account.{DayInput, accounts, nobody}
-use Rattle.methodology.specs.Day.{total}
+use Rattle.methodology.specs.Day.{total, maxEul, dailies}
 use Rattle.methodology.specs.Refusals.{row_when_else_, row_at_when_else_, rows-of_else_, isOpen, badOpening, badInput, badOutput, badDayNumber, firstBadHeading, lastMissing, badAmount, openingRefusal, accountRows, dayRows, beforeFigures, dayRefusal, closingRefusal}
 use Rattle.methodology.specs.Register.{accepted, answerBy}
 use Rattle.methodology.proofs.Passed.{by-test}
@@ -24,8 +24,11 @@ use Rattle.period.specs.declared.Outcome.the-variants.{Opened, Sized, Closed, R
 use Rattle.period.specs.declared.Period.{Period}
 use Rattle.period.specs.declared.Reply.{Reply}
 use Rattle.period.specs.Reading.{answerOf}
-use Rattle.period.specs.Calls.{heldBy, statusOf, openingRow, OpeningMeets, dayRow, DayMeets, closingRow, ClosingMeets}
-use Rattle.answers.specs.Said.{widthSaid, lineSaid}
+use Rattle.period.specs.Calls.{heldBy, statusOf, openingRow, OpeningMeets, accountsBrought, dayRow, DayMeets, closingRow, ClosingMeets}
+use Rattle.period.proofs.Sizing.{Admits, passes-all, written-few}
+use Rattle.fund.proofs.Dailies.{Few}
+use Rattle.answers.specs.Said.{widthSaid, lineSaid, sumsSaid}
+use Rattle.answers.proofs.Columns.{totals-fit}
 use Rattle.answers.proofs.RefusalRows.{is-clear, is-row-at}
 
 -- an accepted call has as many figures as it returns
@@ -62,6 +65,11 @@ pub opening-line : {o : Outcome} (line : ℕ) → OfOpening o → lineSaid o lin
 unfolding lineSaid
 opening-line line opened = omega arith
 opening-line line (unopened number) = omega arith
+
+pub opening-sums : {o : Outcome} (n : ℕ) (figures : List ℕ) → OfOpening o → Every (λ x. x < 2 ^ 64) (sumsSaid o n figures)
+unfolding sumsSaid
+opening-sums n figures opened = tt
+opening-sums n figures (unopened number) = tt
 
 -- ---- a day
 
@@ -127,6 +135,32 @@ day-width count n (sized total max) = omega arith
 day-width count n (unsized number) = omega arith
 day-width count n (unsized-at number index h) = omega arith
 
+-- what a day that is told as accepted has passed, told and written
+module _ {p : Period} {d : DayInput} {before after : List ℕ} {r : Reply} (m : DayMeets p d before r after) {T top : ℕ} (is : r .outcome ≡ Sized T top) where
+  told : (dayRow p d (length before) ≡ Clear) × (total (heldBy p) (accountsBrought p d) ∷ maxEul (heldBy p) (accountsBrought p d) ∷ [] ≡ T ∷ top ∷ [])
+  told = is-clear (dayRow p d (length before)) _ _ (sym (m .answer) ∙ ap answerOf is)
+
+  pub sized-passes : Admits p d (length before) × (0 < total (heldBy p) (accountsBrought p d))
+  sized-passes = passes-all p d (length before) (told .0)
+
+  pub sized-total : T ≡ total (heldBy p) (accountsBrought p d)
+  sized-total = ap (λ (l : List ℕ). getD l 0 0) (sym (told .1))
+
+  pub sized-writes : after ≡ dailies (heldBy p) (accountsBrought p d)
+  sized-writes = m .buffer ∙ rw (told .0)
+
+pub day-sums : {p : Period} {d : DayInput} {before after : List ℕ} {r : Reply} → DayMeets p d before r after → (n : ℕ) → n ≤ 32
+    → Every (λ x. x < 2 ^ 64) (sumsSaid (r .outcome) n after)
+unfolding sumsSaid
+day-sums {p} {d} {before} {after} {r} m n few = by (r .outcome) refl (day-outcome m)
+  where
+    by : (o : Outcome) → r .outcome ≡ o → OfDay (length (d .headings)) o → Every (λ x. x < 2 ^ 64) (sumsSaid o n after)
+    by o is (sized T top) =
+        let (s, positive) = sized-passes m is in
+        totals-fit n after few (subst (Every Few) (sym (sized-writes m is)) (written-few s positive))
+    by o is (unsized number) = tt
+    by o is (unsized-at number index h) = tt
+
 -- ---- a closing
 
 pub data OfClosing : Outcome → Type 0 where
@@ -163,3 +197,8 @@ pub closing-width : {o : Outcome} (n : ℕ) → OfClosing o → widthSaid o * n 
 unfolding widthSaid
 closing-width n (closed days highest funds) = omega arith
 closing-width n (unclosed number) = omega arith
+
+pub closing-sums : {o : Outcome} (n : ℕ) (figures : List ℕ) → OfClosing o → Every (λ x. x < 2 ^ 64) (sumsSaid o n figures)
+unfolding sumsSaid
+closing-sums n figures (closed days highest funds) = tt
+closing-sums n figures (unclosed number) = tt

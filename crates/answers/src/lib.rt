@@ -1,4 +1,7 @@
 // What a call says, as the report prints it: one way for openings, days and closings.
+mod totals;
+
+use crate::totals::totals;
 use period::Outcome;
 use report::put_bytes;
 use report::put_line;
@@ -7,8 +10,9 @@ use report::put_rows;
 ghost use mathlib.Core.Path.{_≡_};
 ghost use Prim.Native.Nat.{_*_, _≤_, _<_, _^_};
 ghost use lib.ListN.{length};
+ghost use Rattle.numbers.specs.Lists.{Every};
 ghost use Rattle.report.specs.Put.{Put};
-ghost use Rattle.answers.specs.Said.{widthSaid, lineSaid, said, isOver};
+ghost use Rattle.answers.specs.Said.{widthSaid, sumsSaid, lineSaid, said, isOver};
 
 // Prints an outcome: `line` is the call's own line, `number` a day's number, and the figures are what the call wrote for n members.
 pub fn say(
@@ -21,6 +25,7 @@ pub fn say(
     at: usize,
 ) -> usize
     requires { ⌜ (n ≤ 32) × (widthSaid outcome * n ≤ length (now figures)) ⌝ }
+    requires { ⌜ Every (λ x. x < 2 ^ 64) (sumsSaid outcome n (now figures)) ⌝ }
     requires { ⌜ lineSaid outcome line < 2 ^ 64 ⌝ }
     ensures { λ r. ⌜ Put (now (out .entry)) at (said outcome number line n (now (figures .entry))) (now (out .exit)) r ⌝ }
 {
@@ -29,7 +34,9 @@ pub fn say(
         Outcome::Sized(total, max) => {
             let numbers = [number, total, max];
             let next = put_line(out, at, b"day", &numbers);
-            put_rows(out, next, b"daily", 5, n, figures)
+            let end = put_rows(out, next, b"daily", 5, n, figures);
+            let sums = totals(n, figures);
+            put_line(out, end, b"total", &sums)
         }
         Outcome::Closed(days, highest, funds) => {
             let numbers = [days, highest, funds];

@@ -10,36 +10,34 @@ use lib.ListN.{length, getD, replicate}
 use lib.Seq.{getD-take, length-take-le}
 use Rattle.numbers.specs.Lists.{range, firstWhere, Every}
 use Rattle.numbers.specs.Sums.{Σ}
-use Rattle.numbers.specs.Rounding.{roundDiv}
-use Rattle.numbers.proofs.Lists.{_∈_, by-index, at-any, replicate-at, first-le, range-length, table-length, mem-every, every-map, every-flatMap}
+use Rattle.numbers.proofs.Lists.{_∈_, by-index, at-any, replicate-at, first-le, range-length, table-length, mem-every, every-map, every-flatMap, every-weaken}
 use Rattle.numbers.proofs.Rows.{rows-length}
 use Rattle.numbers.proofs.Sums.{Σ-bound}
 use Rattle.methodology.specs.declared.Refusal.{Refusal}
 use Rattle.methodology.specs.declared.Refusal.the-variants.{Clear, Row, RowAt}
 use Rattle.methodology.specs.declared.Opening.{Opening}
-use Rattle.methodology.specs.Account.{noOpening, DayInput, Account, members, accounts, nobody}
-use Rattle.methodology.specs.Member.{loss}
-use Rattle.methodology.specs.Day.{total, maxEul, scale, share, value, reserve, estimate, five, dailies}
+use Rattle.methodology.specs.Account.{noOpening, DayInput, accounts, nobody}
+use Rattle.methodology.specs.Day.{total, maxEul, scale, dailies}
 use Rattle.methodology.specs.Contribution.{charge, funded, unfunded, three}
 use Rattle.methodology.specs.Refusals.{row_when_else_, row_at_when_else_, rows-of_else_, isOpen, badOpening, openingRefusal, badInput, badOutput, badDayNumber, firstBadHeading, lastMissing, badAmount, accountRows, dayRows, beforeFigures, dayRefusal, closingRefusal}
 use Rattle.methodology.specs.Register.{ifAccepted, accepted, answerBy}
 use Rattle.methodology.proofs.Passed.{passed, either}
 use Rattle.quotient.specs.Ranges.{greatestTotal}
-use Rattle.quotient.proofs.QuotientBounds.{share-le, cents-le, raw-le}
+use Rattle.quotient.proofs.QuotientBounds.{raw-le}
 use Rattle.validation.specs.Slices.{inPlaces}
 use Rattle.validation.proofs.Headings.{bad-heading-le}
 use Rattle.validation.proofs.OpeningPasses.{opening-leaves}
 use Rattle.validation.proofs.DayPasses.{sized, accounts-long}
-use Rattle.exposure.proofs.MaxTotal.{loss-le-total, max-le-total}
+use Rattle.exposure.proofs.MaxTotal.{max-le-total}
 use Rattle.period.specs.declared.Period.{Period}
 use Rattle.period.specs.declared.Outcome.{Outcome}
 use Rattle.period.specs.declared.Outcome.the-variants as says
 use Rattle.period.specs.declared.Reply.{Reply}
 use Rattle.period.specs.Reading.{answerOf}
 use Rattle.period.specs.Calls.{freshPeriod, heldBy, inRange, statusOf, openingRow, openedPeriod, accountsBrought, dayRow, shareAt, sizedPeriod, closingRow, sumsHeld, chargeBy, closedPeriod}
-use Rattle.fund.proofs.Dailies.{dailies-long}
+use Rattle.fund.proofs.Dailies.{Few, dailies-long}
 use Rattle.period.proofs.InRange.{ranged}
-use Rattle.period.proofs.Sizing.{Admits, passes-all, total-few}
+use Rattle.period.proofs.Sizing.{Admits, passes-all, total-few, written-few}
 use Rattle.period.proofs.Closings.{Closable, closable, in-range}
 use Rattle.period.proofs.Reach.{sized-in-range}
 use Rattle.demand3.proofs.Covering.{three-wide}
@@ -109,20 +107,8 @@ indexed P xs h = mem-every P xs (by-index P xs 0 (λ i l. h i))
 
 -- ---- a day that is accepted
 
-module _ (o : Opening) (accts : List Account) (positive : 0 < total o accts) (few : total o accts ≤ greatestTotal) where
-  five-fits : {m : ℕ} → m ∈ members (o .n) → Every Fits64 (five (loss (o .k) accts m) (maxEul o accts) (total o accts))
-  unfolding five share value reserve estimate
-  five-fits {m} i =
-      let e = loss (o .k) accts m in
-      let top = maxEul o accts in
-      let part = loss-le-total o accts i in
-      let most = max-le-total o accts in
-      let cents : (f : ℕ) → roundDiv (f * e * top) (total o accts) ≤ f * top = λ f. cents-le f e top (total o accts) positive part in
-      (omega arith, (omega (arith, share-le scale e (total o accts) positive part), (omega (arith, cents 100), (omega (arith, cents 110), (omega (arith, cents 220), tt)))))
-
-  dailies-fit : Every Fits64 (dailies o accts)
-  unfolding dailies
-  dailies-fit = every-flatMap Fits64 _ (members (o .n)) (λ m i. five-fits i)
+dailies-fit : (p : Period) (d : DayInput) (room : ℕ) → Admits p d room × (0 < total (heldBy p) (accountsBrought p d)) → Every Fits64 (dailies (heldBy p) (accountsBrought p d))
+dailies-fit p d room (s, t) = every-weaken Few Fits64 (λ x few. omega arith) (dailies (heldBy p) (accountsBrought p d)) (written-few s t)
 
 day-figures-fit : (p : Period) (d : DayInput) (room : ℕ) → Admits p d room × (0 < total (heldBy p) (accountsBrought p d)) → Every Fits64 (total (heldBy p) (accountsBrought p d) ∷ maxEul (heldBy p) (accountsBrought p d) ∷ [])
 day-figures-fit p d room (s, t) =
@@ -232,7 +218,7 @@ fits {p} q (Asked.day d out) r after m =
     record {
       answer = rw (m .answer) (answer-fits x _ (day-row-fits p d (length out)) (λ e. day-figures-fit p d (length out) (pass e)));
       period = subst Narrow (sym (m .period)) (either Narrow x _ p (λ e. narrow-sized p d (sized-in-range p d (pass e .0) (pass e .1)) q) q);
-      buffer = λ b. subst (Every Fits64) (sym (m .buffer)) (either (Every Fits64) x _ out (λ e. dailies-fit (heldBy p) (accountsBrought p d) (pass e .1) (total-few (pass e .0))) b);
+      buffer = λ b. subst (Every Fits64) (sym (m .buffer)) (either (Every Fits64) x _ out (λ e. dailies-fit p d (length out) (pass e)) b);
       long = ap length (m .buffer) ∙ either (λ (l : List ℕ). length l ≡ length out) x _ out (λ e. dailies-long (heldBy p) (accountsBrought p d) ∙ sym (pass e .0 .room-long)) refl;
     }
 fits {p} q (Asked.closing out) r after m =
@@ -260,7 +246,7 @@ answered (Row number) o figures e = refl
 answered (RowAt number index) o figures e = refl
 
 -- the reply that a contract names, the buffer that it leaves, and that they meet it
-makes : (p : Period) (a : Asked) → (r : Reply) × (after : List ℕ) × Meets p a r after
+pub makes : (p : Period) (a : Asked) → (r : Reply) × (after : List ℕ) × Meets p a r after
 makes p (Asked.opening o) =
     let x = openingRow p o in
     let r : Reply = record { outcome = outcomeBy x says.Opened; period = ifAccepted x (openedPeriod o) p } in

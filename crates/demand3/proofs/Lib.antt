@@ -1,6 +1,6 @@
 mod Covering
 mod EveryList
-mod Fitting
+pub mod Fitting
 pub mod Facts
 pub mod Returns
 pub mod Demand3

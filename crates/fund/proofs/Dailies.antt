@@ -1,15 +1,20 @@
--- What a day writes for a list of losses is `dailies`, when these are the members' losses of the day; and where each share stands in it.
+-- What a day writes for a list of losses is `dailies`, when these are the members' losses of the day; where each share stands in it, and how
+-- large a number can be.
 use mathlib.Core.Path.{_≡_, refl, ap, _∙_}
 use mathlib.Core.List.{List, map, flatMap}
-use Prim.Native.Nat.{ℕ, _+_, _*_, _<_}
+use Prim.Native.Nat.{ℕ, _+_, _*_, _<_, _≤_}
 use native.Mathlib.Omega.{arith}
 use lib.ListN.{length, take}
-use Rattle.numbers.proofs.Lists.{range-length, range-at}
+use Rattle.numbers.specs.Lists.{Every}
+use Rattle.numbers.specs.Rounding.{roundDiv}
+use Rattle.numbers.proofs.Lists.{_∈_, range-length, range-at, every-flatMap}
 use Rattle.numbers.proofs.Rows.{flatMap-map, rows-length, rows-at}
 use Rattle.methodology.specs.declared.Opening.{Opening}
 use Rattle.methodology.specs.Account.{Account, members}
 use Rattle.methodology.specs.Member.{loss}
-use Rattle.methodology.specs.Day.{total, maxEul, share, five, dailies}
+use Rattle.methodology.specs.Day.{total, maxEul, scale, share, value, reserve, estimate, five, dailies}
+use Rattle.quotient.specs.Ranges.{Loss, greatestTotal}
+use Rattle.quotient.proofs.QuotientBounds.{share-le, cents-le}
 use Rattle.fund.specs.Shares.{shareIn}
 
 pub are-dailies : (o : Opening) (accts : List Account) (losses : List ℕ) → take (o .n) losses ≡ map (loss (o .k) accts) (members (o .n))
@@ -17,11 +22,28 @@ pub are-dailies : (o : Opening) (accts : List Account) (losses : List ℕ) → t
 unfolding dailies
 are-dailies o accts losses h = rw (h, flatMap-map)
 
-five-wide : (e top t : ℕ) → length (five e top t) ≡ 5
+pub five-wide : (e top t : ℕ) → length (five e top t) ≡ 5
 unfolding five
 five-wide e top t = refl
 
+-- the most that a day writes: an estimate, where the greatest Max EUL is a member's
+abbrev pub mostDaily : ℕ
+mostDaily = 220 * greatestTotal
+
+abbrev pub Few : ℕ → Type 0
+Few x = x ≤ mostDaily
+
+five-few : (e top t : ℕ) → Loss e t → top ≤ greatestTotal → Every Few (five e top t)
+unfolding five share value reserve estimate
+five-few e top t l high =
+    let cents : (f : ℕ) → roundDiv (f * e * top) t ≤ f * top = λ f. cents-le f e top t (l .positive) (l .part) in
+    (omega (arith, l .part, l .bounded), (omega (arith, share-le scale e t (l .positive) (l .part)), (omega (arith, cents 100), (omega (arith, cents 110), (omega (arith, cents 220), tt)))))
+
 module _ (o : Opening) (accts : List Account) where
+  pub dailies-few : ((m : ℕ) → m ∈ members (o .n) → Loss (loss (o .k) accts m) (total o accts)) → maxEul o accts ≤ greatestTotal → Every Few (dailies o accts)
+  unfolding dailies
+  dailies-few l high = every-flatMap Few _ (members (o .n)) (λ m i. five-few _ _ _ (l m i) high)
+
   abbrev fiveOf : (m : ℕ) → List ℕ
   fiveOf m = five (loss (o .k) accts m) (maxEul o accts) (total o accts)
 

@@ -39,7 +39,7 @@ module _ (m : ℕ) (s : List ℕ) (longer : m < length s) (near : indexOf LF s <
   has-whole : has LF s ≡ true
   has-whole = lt-ltb (indexOf LF s) (length s) (omega arith)
 
-  before-same : before LF (take m s) ≡ before LF s
+  pub before-same : before LF (take m s) ≡ before LF s
   before-same = rw index-same (take-take (indexOf LF s) m s (omega arith))
 
   after-cut : after LF (take m s) ≡ take (m - suc (indexOf LF s)) (after LF s)
@@ -56,7 +56,7 @@ unended (account g d at count used) i rest h = refl
 unended (afterEnd g at) i [] h = absurd (omega arith)
 unended (afterEnd g at) i (x ∷ rest) h = refl
 
-too-long : (i : ℕ) (s : List ℕ) (e : Expected) → aLine ≤ indexOf LF s → reportFrom i (split LF s) e ≡ refusedLine 9 i
+pub too-long : (i : ℕ) (s : List ℕ) (e : Expected) → aLine ≤ indexOf LF s → reportFrom i (split LF s) e ≡ refusedLine 9 i
 unfolding followedBy badBytes
 too-long i s e h = by (has LF s) refl
   where

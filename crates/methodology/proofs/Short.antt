@@ -1,4 +1,4 @@
--- A report has at most 147,456 bytes. The numbers of accepted days rise to 31, so there are at most 31 of them; a day prints at most 4,400
+-- A report has at most 147,456 bytes. The numbers of accepted days rise to 31, so there are at most 31 of them; a day prints at most 4,500
 -- bytes, and so does what ends the report. Each line takes what it prints from what can still be printed.
 use mathlib.Core.Path.{_≡_, refl}
 use mathlib.Core.Bool.{_||_, cond}
@@ -15,8 +15,8 @@ use Rattle.methodology.specs.declared.Refusal.the-variants.{Clear, Row, 
 use Rattle.methodology.specs.declared.Opening.{Opening}
 use Rattle.methodology.specs.Account.{DayInput, members}
 use Rattle.methodology.specs.Refusals.{nOutside, kOutside, countOutside}
-use Rattle.methodology.specs.Register.{Call, Register, start, lastNumber, refusal, accept, step, returned}
-use Rattle.methodology.specs.Text.{LF, tab, bytes, same, split, badBytes, AccountLine, digits, decimal, printed, refusedLine, rows, dayLines, fundLines, Expected, period, member, day, account, afterEnd, Read, ends, goesOn, readPeriod, opened, readMember, readDay, sized, withAccount, readAccount, readLine, closed, atEnd, followedBy, reportFrom, reportOf}
+use Rattle.methodology.specs.Register.{Call, Register, start, lastNumber, refusal, accept, step, returned, written}
+use Rattle.methodology.specs.Text.{LF, tab, bytes, same, split, badBytes, AccountLine, digits, decimal, printed, refusedLine, rows, totals, dayLines, fundLines, Expected, period, member, day, account, afterEnd, Read, ends, goesOn, readPeriod, opened, readMember, readDay, sized, withAccount, readAccount, readLine, closed, atEnd, followedBy, reportFrom, reportOf}
 use Rattle.methodology.proofs.Passed.{inside, either, by-test}
 use Rattle.methodology.proofs.Enough.{rises}
 
@@ -57,23 +57,23 @@ rows-short word width n out h =
 
 -- the most bytes that a day prints, and that the end of a report does
 abbrev aDay : ℕ
-aDay = 4400
+aDay = 4500
 
--- a line of few numbers, and one for each member
-lines-short : (head numbers word : List ℕ) (width n : ℕ) (out : List ℕ) → length head + 21 * length numbers ≤ 67 → length word + 21 * width ≤ 110 → n ≤ 32
-    → length (printed head numbers ++ rows word width n out) ≤ aDay
-lines-short head numbers word width n out h k few =
-    omega (arith, length-append (printed head numbers) (rows word width n out), printed-short head numbers, rows-short word width n out k)
+day-short : (number n : ℕ) (figures out : List ℕ) → length figures ≡ 2 → n ≤ 32 → length (dayLines number n figures out) ≤ aDay
+unfolding dayLines totals bytes
+day-short number n figures out two few =
+    let head = printed (bytes "day") (number ∷ figures) in
+    let lines = rows (bytes "daily") 5 n out in
+    let under = printed (bytes "total") (totals n out) in
+    let whole : length (dayLines number n figures out) ≡ length (head ++ lines) + length under = length-append (head ++ lines) under in
+    omega (arith, length-append head lines, printed-short (bytes "day") (number ∷ figures), rows-short (bytes "daily") 5 n out (omega arith), printed-short (bytes "total") (totals n out))
 
-day-short : (g : Register) (d : DayInput) (room : ℕ) → g .held .n ≤ 32 → length (dayLines g d room) ≤ aDay
-unfolding dayLines returned bytes
-day-short g d room few =
-    lines-short (bytes "day") (d .terms .number ∷ returned g (Call.day d room)) (bytes "daily") 5 (g .held .n) _ (omega arith) (omega arith) few
-
-fund-short : (g : Register) (room : ℕ) → g .held .n ≤ 32 → length (fundLines g room) ≤ aDay
-unfolding fundLines returned bytes
-fund-short g room few =
-    lines-short (bytes "fund") (returned g (Call.closing room)) (bytes "contribution") 3 (g .held .n) _ (omega arith) (omega arith) few
+fund-short : (n : ℕ) (figures out : List ℕ) → length figures ≡ 3 → n ≤ 32 → length (fundLines n figures out) ≤ aDay
+unfolding fundLines bytes
+fund-short n figures out three few =
+    let lines = rows (bytes "contribution") 3 n out in
+    let whole : length (fundLines n figures out) ≡ length (printed (bytes "fund") figures) + length lines = length-append (printed (bytes "fund") figures) lines in
+    omega (arith, printed-short (bytes "fund") figures, rows-short (bytes "contribution") 3 n out (omega arith))
 
 refused-short : (number line : ℕ) → length (refusedLine number line) ≤ aDay
 unfolding bytes
@@ -146,11 +146,11 @@ short-day g i (some ns) few =
 -- an accepted day's number is above the last, so there is room for its lines
 short-sized : (x : Refusal) (g : Register) (d : DayInput) (i : ℕ) → g .held .n ≤ 32 → refusal g (Call.day d (5 * g .held .n)) ≡ x
     → AtMost (most (day g)) (sized x g d i)
-unfolding sized step accept
+unfolding sized step accept returned
 short-sized Clear g d i few e =
-    let room = 5 * g .held .n in
-    let r = rises g d room e in
-    let lines = day-short (accept g (Call.day d room)) d room few in
+    let call = Call.day d (5 * g .held .n) in
+    let r = rises g d (5 * g .held .n) e in
+    let lines = day-short (d .terms .number) (g .held .n) (returned (accept g call) call) (written (accept g call) call) refl few in
     rw e (few, omega arith)
 short-sized (Row number) g d i few e = refused-most (day g) number i
 short-sized (RowAt number index) g d i few e = refused-most (day g) number (i + 1 + index)
@@ -176,10 +176,10 @@ short-line (afterEnd g at) i l few = refused-most (afterEnd g at) 9 i
 -- ---- the end
 
 short-closed : (x : Refusal) (g : Register) (i : ℕ) → g .held .n ≤ 32 → length (closed x g i) ≤ aDay
-unfolding closed step accept
+unfolding closed step accept returned
 short-closed Clear g i few =
-    let room = 3 * g .held .n in
-    fund-short _ room (either (λ (after : Register). after .held .n ≤ 32) (refusal g (Call.closing room)) _ _ (λ e. few) few)
+    let call = Call.closing (3 * g .held .n) in
+    fund-short _ _ _ refl (either (λ (after : Register). after .held .n ≤ 32) (refusal g call) _ _ (λ e. few) few)
 short-closed (Row number) g i few = refused-short number i
 short-closed (RowAt number index) g i few = refused-short number i
 

@@ -1,19 +1,19 @@
 -- Worked texts with the reports that they must give: document 01's printed month, texts refused by every row that a text can meet, and
--- months with groups, clients and several days. The reports were worked out from document 01 by recalculations of others; the theorem
+-- months with groups, clients and several days. The reports were worked out from the documents by recalculations of others; the theorem
 -- computes them.
 use mathlib.Core.Path.{_≡_, refl}
 use mathlib.Core.List.{List, [], _∷_, map}
 use mathlib.Core.Option.{some}
 use Prim.Native.String.{String}
 use lib.IntN.{pos}
-use Rattle.methodology.specs.Text.{goesOn, bad, account, bytes, same, onto, split, valueFrom, numberOf, below0, above0, signedOf, kindOf, also, everyField, badBytes, numbersAfter, accountBy, accountOf, digits, decimal, printed, rows, dayLines, fundLines, readPeriod, opened, readMember, readDay, sized, withAccount, readAccount, readLine, closed, atEnd, followedBy, reportFrom, reportOf}
+use Rattle.methodology.specs.Text.{goesOn, bad, account, bytes, same, onto, split, valueFrom, numberOf, below0, above0, signedOf, kindOf, also, everyField, badBytes, numbersAfter, accountBy, accountOf, digits, decimal, printed, rows, columnSum, totals, dayLines, fundLines, readPeriod, opened, readMember, readDay, sized, withAccount, readAccount, readLine, closed, atEnd, followedBy, reportFrom, reportOf}
 use Rattle.methodology.specs.Account.{DayInput}
 use Rattle.methodology.specs.Register.{Register, start}
 use Rattle.methodology.proofs.Samples.{computed}
 
 -- what a report is made of, opened
 unfoldable reads : Unit {0}
-unfolding bytes same onto split valueFrom numberOf below0 above0 signedOf kindOf also everyField badBytes numbersAfter accountBy accountOf digits printed rows dayLines fundLines readPeriod opened readMember readDay sized withAccount readAccount readLine closed atEnd followedBy reportFrom reportOf
+unfolding bytes same onto split valueFrom numberOf below0 above0 signedOf kindOf also everyField badBytes numbersAfter accountBy accountOf digits printed rows columnSum totals dayLines fundLines readPeriod opened readMember readDay sized withAccount readAccount readLine closed atEnd followedBy reportFrom reportOf
 reads = tt
 
 -- a text with the report that it must give
@@ -29,7 +29,7 @@ text gives report = record { text = text; report = report }
 pub texts : List Worked
 texts =
     -- the printed month
-    ("period\t2\t1\nmember\t1\t0\nmember\t2\t0\nday\t3\t2\nacct\t1\t0\tH\t390000000\t0\t0\t0\nacct\t2\t0\tH\t10000000\t0\t0\t0\nend\n" gives "day\t3\t400000000\t390000000\ndaily\t1\t390000000\t975000000000\t38025000000\t41827500000\t83655000000\ndaily\t2\t10000000\t25000000000\t975000000\t1072500000\t2145000000\nfund\t1\t390000000\t468275000\ncontribution\t1\t418275000\t418275000\t836550000\ncontribution\t2\t10725000\t50000000\t100000000\n")
+    ("period\t2\t1\nmember\t1\t0\nmember\t2\t0\nday\t3\t2\nacct\t1\t0\tH\t390000000\t0\t0\t0\nacct\t2\t0\tH\t10000000\t0\t0\t0\nend\n" gives "day\t3\t400000000\t390000000\ndaily\t1\t390000000\t975000000000\t38025000000\t41827500000\t83655000000\ndaily\t2\t10000000\t25000000000\t975000000\t1072500000\t2145000000\ntotal\t400000000\t1000000000000\t39000000000\t42900000000\t85800000000\nfund\t1\t390000000\t468275000\ncontribution\t1\t418275000\t418275000\t836550000\ncontribution\t2\t10725000\t50000000\t100000000\n")
     -- empty input
     ∷ ("" gives "refused\t9\t1\n")
     -- one lf
@@ -45,7 +45,7 @@ texts =
     -- cut after acct 1
     ∷ ("period\t2\t1\nmember\t1\t0\nmember\t2\t0\nday\t3\t2\nacct\t1\t0\tH\t390000000\t0\t0\t0\n" gives "refused\t9\t6\n")
     -- no end
-    ∷ ("period\t2\t1\nmember\t1\t0\nmember\t2\t0\nday\t3\t2\nacct\t1\t0\tH\t390000000\t0\t0\t0\nacct\t2\t0\tH\t10000000\t0\t0\t0\n" gives "day\t3\t400000000\t390000000\ndaily\t1\t390000000\t975000000000\t38025000000\t41827500000\t83655000000\ndaily\t2\t10000000\t25000000000\t975000000\t1072500000\t2145000000\nrefused\t9\t7\n")
+    ∷ ("period\t2\t1\nmember\t1\t0\nmember\t2\t0\nday\t3\t2\nacct\t1\t0\tH\t390000000\t0\t0\t0\nacct\t2\t0\tH\t10000000\t0\t0\t0\n" gives "day\t3\t400000000\t390000000\ndaily\t1\t390000000\t975000000000\t38025000000\t41827500000\t83655000000\ndaily\t2\t10000000\t25000000000\t975000000\t1072500000\t2145000000\ntotal\t400000000\t1000000000000\t39000000000\t42900000000\t85800000000\nrefused\t9\t7\n")
     -- member line missing
     ∷ ("period\t2\t1\nmember\t1\t0\nday\t3\t2\nacct\t1\t0\tH\t390000000\t0\t0\t0\nacct\t2\t0\tH\t10000000\t0\t0\t0\nend\n" gives "refused\t9\t3\n")
     -- acct line missing
@@ -53,27 +53,27 @@ texts =
     -- end where an acct is due
     ∷ ("period\t2\t1\nmember\t1\t0\nmember\t2\t0\nday\t3\t2\nacct\t1\t0\tH\t390000000\t0\t0\t0\nend\n" gives "refused\t9\t6\n")
     -- end without lf
-    ∷ ("period\t2\t1\nmember\t1\t0\nmember\t2\t0\nday\t3\t2\nacct\t1\t0\tH\t390000000\t0\t0\t0\nacct\t2\t0\tH\t10000000\t0\t0\t0\nend" gives "day\t3\t400000000\t390000000\ndaily\t1\t390000000\t975000000000\t38025000000\t41827500000\t83655000000\ndaily\t2\t10000000\t25000000000\t975000000\t1072500000\t2145000000\nrefused\t9\t7\n")
+    ∷ ("period\t2\t1\nmember\t1\t0\nmember\t2\t0\nday\t3\t2\nacct\t1\t0\tH\t390000000\t0\t0\t0\nacct\t2\t0\tH\t10000000\t0\t0\t0\nend" gives "day\t3\t400000000\t390000000\ndaily\t1\t390000000\t975000000000\t38025000000\t41827500000\t83655000000\ndaily\t2\t10000000\t25000000000\t975000000\t1072500000\t2145000000\ntotal\t400000000\t1000000000000\t39000000000\t42900000000\t85800000000\nrefused\t9\t7\n")
     -- cut in a line
     ∷ ("period\t2\t1\nmember\t1\t0\nmember\t2\t0\nday\t3\t2\nacct\t1\t0" gives "refused\t9\t5\n")
     -- lf after end
-    ∷ ("period\t2\t1\nmember\t1\t0\nmember\t2\t0\nday\t3\t2\nacct\t1\t0\tH\t390000000\t0\t0\t0\nacct\t2\t0\tH\t10000000\t0\t0\t0\nend\n\n" gives "day\t3\t400000000\t390000000\ndaily\t1\t390000000\t975000000000\t38025000000\t41827500000\t83655000000\ndaily\t2\t10000000\t25000000000\t975000000\t1072500000\t2145000000\nrefused\t9\t8\n")
+    ∷ ("period\t2\t1\nmember\t1\t0\nmember\t2\t0\nday\t3\t2\nacct\t1\t0\tH\t390000000\t0\t0\t0\nacct\t2\t0\tH\t10000000\t0\t0\t0\nend\n\n" gives "day\t3\t400000000\t390000000\ndaily\t1\t390000000\t975000000000\t38025000000\t41827500000\t83655000000\ndaily\t2\t10000000\t25000000000\t975000000\t1072500000\t2145000000\ntotal\t400000000\t1000000000000\t39000000000\t42900000000\t85800000000\nrefused\t9\t8\n")
     -- byte after end
-    ∷ ("period\t2\t1\nmember\t1\t0\nmember\t2\t0\nday\t3\t2\nacct\t1\t0\tH\t390000000\t0\t0\t0\nacct\t2\t0\tH\t10000000\t0\t0\t0\nend\nx" gives "day\t3\t400000000\t390000000\ndaily\t1\t390000000\t975000000000\t38025000000\t41827500000\t83655000000\ndaily\t2\t10000000\t25000000000\t975000000\t1072500000\t2145000000\nrefused\t9\t8\n")
+    ∷ ("period\t2\t1\nmember\t1\t0\nmember\t2\t0\nday\t3\t2\nacct\t1\t0\tH\t390000000\t0\t0\t0\nacct\t2\t0\tH\t10000000\t0\t0\t0\nend\nx" gives "day\t3\t400000000\t390000000\ndaily\t1\t390000000\t975000000000\t38025000000\t41827500000\t83655000000\ndaily\t2\t10000000\t25000000000\t975000000\t1072500000\t2145000000\ntotal\t400000000\t1000000000000\t39000000000\t42900000000\t85800000000\nrefused\t9\t8\n")
     -- second end
-    ∷ ("period\t2\t1\nmember\t1\t0\nmember\t2\t0\nday\t3\t2\nacct\t1\t0\tH\t390000000\t0\t0\t0\nacct\t2\t0\tH\t10000000\t0\t0\t0\nend\nend\n" gives "day\t3\t400000000\t390000000\ndaily\t1\t390000000\t975000000000\t38025000000\t41827500000\t83655000000\ndaily\t2\t10000000\t25000000000\t975000000\t1072500000\t2145000000\nrefused\t9\t8\n")
+    ∷ ("period\t2\t1\nmember\t1\t0\nmember\t2\t0\nday\t3\t2\nacct\t1\t0\tH\t390000000\t0\t0\t0\nacct\t2\t0\tH\t10000000\t0\t0\t0\nend\nend\n" gives "day\t3\t400000000\t390000000\ndaily\t1\t390000000\t975000000000\t38025000000\t41827500000\t83655000000\ndaily\t2\t10000000\t25000000000\t975000000\t1072500000\t2145000000\ntotal\t400000000\t1000000000000\t39000000000\t42900000000\t85800000000\nrefused\t9\t8\n")
     -- 9 after end before 8
     ∷ ("period\t1\t1\nmember\t1\t0\nend\n\n" gives "refused\t9\t4\n")
     -- 8 at the end line
     ∷ ("period\t1\t1\nmember\t1\t0\nend\n" gives "refused\t8\t3\n")
     -- second period
-    ∷ ("period\t2\t1\nmember\t1\t0\nmember\t2\t0\nday\t3\t2\nacct\t1\t0\tH\t390000000\t0\t0\t0\nacct\t2\t0\tH\t10000000\t0\t0\t0\nperiod\t2\t1\n" gives "day\t3\t400000000\t390000000\ndaily\t1\t390000000\t975000000000\t38025000000\t41827500000\t83655000000\ndaily\t2\t10000000\t25000000000\t975000000\t1072500000\t2145000000\nrefused\t9\t7\n")
+    ∷ ("period\t2\t1\nmember\t1\t0\nmember\t2\t0\nday\t3\t2\nacct\t1\t0\tH\t390000000\t0\t0\t0\nacct\t2\t0\tH\t10000000\t0\t0\t0\nperiod\t2\t1\n" gives "day\t3\t400000000\t390000000\ndaily\t1\t390000000\t975000000000\t38025000000\t41827500000\t83655000000\ndaily\t2\t10000000\t25000000000\t975000000\t1072500000\t2145000000\ntotal\t400000000\t1000000000000\t39000000000\t42900000000\t85800000000\nrefused\t9\t7\n")
     -- empty line
     ∷ ("period\t2\t1\nmember\t1\t0\nmember\t2\t0\n\nday\t3\t2\nacct\t1\t0\tH\t390000000\t0\t0\t0\nacct\t2\t0\tH\t10000000\t0\t0\t0\nend\n" gives "refused\t9\t4\n")
     -- end with a field
-    ∷ ("period\t2\t1\nmember\t1\t0\nmember\t2\t0\nday\t3\t2\nacct\t1\t0\tH\t390000000\t0\t0\t0\nacct\t2\t0\tH\t10000000\t0\t0\t0\nend\t\n" gives "day\t3\t400000000\t390000000\ndaily\t1\t390000000\t975000000000\t38025000000\t41827500000\t83655000000\ndaily\t2\t10000000\t25000000000\t975000000\t1072500000\t2145000000\nrefused\t9\t7\n")
+    ∷ ("period\t2\t1\nmember\t1\t0\nmember\t2\t0\nday\t3\t2\nacct\t1\t0\tH\t390000000\t0\t0\t0\nacct\t2\t0\tH\t10000000\t0\t0\t0\nend\t\n" gives "day\t3\t400000000\t390000000\ndaily\t1\t390000000\t975000000000\t38025000000\t41827500000\t83655000000\ndaily\t2\t10000000\t25000000000\t975000000\t1072500000\t2145000000\ntotal\t400000000\t1000000000000\t39000000000\t42900000000\t85800000000\nrefused\t9\t7\n")
     -- word in capitals
-    ∷ ("period\t2\t1\nmember\t1\t0\nmember\t2\t0\nday\t3\t2\nacct\t1\t0\tH\t390000000\t0\t0\t0\nacct\t2\t0\tH\t10000000\t0\t0\t0\nEND\n" gives "day\t3\t400000000\t390000000\ndaily\t1\t390000000\t975000000000\t38025000000\t41827500000\t83655000000\ndaily\t2\t10000000\t25000000000\t975000000\t1072500000\t2145000000\nrefused\t9\t7\n")
+    ∷ ("period\t2\t1\nmember\t1\t0\nmember\t2\t0\nday\t3\t2\nacct\t1\t0\tH\t390000000\t0\t0\t0\nacct\t2\t0\tH\t10000000\t0\t0\t0\nEND\n" gives "day\t3\t400000000\t390000000\ndaily\t1\t390000000\t975000000000\t38025000000\t41827500000\t83655000000\ndaily\t2\t10000000\t25000000000\t975000000\t1072500000\t2145000000\ntotal\t400000000\t1000000000000\t39000000000\t42900000000\t85800000000\nrefused\t9\t7\n")
     -- word with more
     ∷ ("period\t2\t1\nmember\t1\t0\nmember\t2\t0\ndays\t3\t2\nacct\t1\t0\tH\t390000000\t0\t0\t0\nacct\t2\t0\tH\t10000000\t0\t0\t0\nend\n" gives "refused\t9\t4\n")
     -- n 0
@@ -103,7 +103,7 @@ texts =
     -- group 33 before a bad day line
     ∷ ("period\t2\t1\nmember\t1\t0\nmember\t2\t33\nx\nacct\t1\t0\tH\t390000000\t0\t0\t0\nacct\t2\t0\tH\t10000000\t0\t0\t0\nend\n" gives "refused\t1\t1\n")
     -- group 32
-    ∷ ("period\t2\t1\nmember\t1\t0\nmember\t2\t32\nday\t3\t2\nacct\t1\t0\tH\t390000000\t0\t0\t0\nacct\t2\t0\tH\t10000000\t0\t0\t0\nend\n" gives "day\t3\t400000000\t390000000\ndaily\t1\t390000000\t975000000000\t38025000000\t41827500000\t83655000000\ndaily\t2\t10000000\t25000000000\t975000000\t1072500000\t2145000000\nfund\t1\t390000000\t468275000\ncontribution\t1\t418275000\t418275000\t836550000\ncontribution\t2\t10725000\t50000000\t100000000\n")
+    ∷ ("period\t2\t1\nmember\t1\t0\nmember\t2\t32\nday\t3\t2\nacct\t1\t0\tH\t390000000\t0\t0\t0\nacct\t2\t0\tH\t10000000\t0\t0\t0\nend\n" gives "day\t3\t400000000\t390000000\ndaily\t1\t390000000\t975000000000\t38025000000\t41827500000\t83655000000\ndaily\t2\t10000000\t25000000000\t975000000\t1072500000\t2145000000\ntotal\t400000000\t1000000000000\t39000000000\t42900000000\t85800000000\nfund\t1\t390000000\t468275000\ncontribution\t1\t418275000\t418275000\t836550000\ncontribution\t2\t10725000\t50000000\t100000000\n")
     -- member number wrong
     ∷ ("period\t2\t1\nmember\t1\t0\nmember\t3\t0\nday\t3\t2\nacct\t1\t0\tH\t390000000\t0\t0\t0\nacct\t2\t0\tH\t10000000\t0\t0\t0\nend\n" gives "refused\t9\t3\n")
     -- member number twice
@@ -121,7 +121,7 @@ texts =
     -- 3 before 5
     ∷ ("period\t2\t1\nmember\t1\t0\nmember\t2\t0\nday\t0\t2\nacct\t2\t0\tH\t10000000\t0\t0\t0\nacct\t2\t0\tH\t10000000\t0\t0\t0\nend\n" gives "refused\t3\t4\n")
     -- day again
-    ∷ ("period\t2\t1\nmember\t1\t0\nmember\t2\t0\nday\t3\t2\nacct\t1\t0\tH\t390000000\t0\t0\t0\nacct\t2\t0\tH\t10000000\t0\t0\t0\nday\t3\t2\nacct\t1\t0\tH\t390000000\t0\t0\t0\nacct\t2\t0\tH\t10000000\t0\t0\t0\nend\n" gives "day\t3\t400000000\t390000000\ndaily\t1\t390000000\t975000000000\t38025000000\t41827500000\t83655000000\ndaily\t2\t10000000\t25000000000\t975000000\t1072500000\t2145000000\nrefused\t3\t7\n")
+    ∷ ("period\t2\t1\nmember\t1\t0\nmember\t2\t0\nday\t3\t2\nacct\t1\t0\tH\t390000000\t0\t0\t0\nacct\t2\t0\tH\t10000000\t0\t0\t0\nday\t3\t2\nacct\t1\t0\tH\t390000000\t0\t0\t0\nacct\t2\t0\tH\t10000000\t0\t0\t0\nend\n" gives "day\t3\t400000000\t390000000\ndaily\t1\t390000000\t975000000000\t38025000000\t41827500000\t83655000000\ndaily\t2\t10000000\t25000000000\t975000000\t1072500000\t2145000000\ntotal\t400000000\t1000000000000\t39000000000\t42900000000\t85800000000\nrefused\t3\t7\n")
     -- count 0
     ∷ ("period\t2\t1\nmember\t1\t0\nmember\t2\t0\nday\t3\t0\nacct\t1\t0\tH\t390000000\t0\t0\t0\nacct\t2\t0\tH\t10000000\t0\t0\t0\nend\n" gives "refused\t4\t4\n")
     -- count 257
@@ -157,7 +157,7 @@ texts =
     -- last member missing and a bad line after it
     ∷ ("period\t2\t1\nmember\t1\t0\nmember\t2\t0\nday\t3\t1\nacct\t1\t0\tH\t390000000\t0\t0\t0\nx\nend\n" gives "refused\t5\t6\n")
     -- surplus acct line
-    ∷ ("period\t2\t1\nmember\t1\t0\nmember\t2\t0\nday\t3\t2\nacct\t1\t0\tH\t390000000\t0\t0\t0\nacct\t2\t0\tH\t10000000\t0\t0\t0\nacct\t2\t1\tU\t1\t0\t0\t0\nend\n" gives "day\t3\t400000000\t390000000\ndaily\t1\t390000000\t975000000000\t38025000000\t41827500000\t83655000000\ndaily\t2\t10000000\t25000000000\t975000000\t1072500000\t2145000000\nrefused\t9\t7\n")
+    ∷ ("period\t2\t1\nmember\t1\t0\nmember\t2\t0\nday\t3\t2\nacct\t1\t0\tH\t390000000\t0\t0\t0\nacct\t2\t0\tH\t10000000\t0\t0\t0\nacct\t2\t1\tU\t1\t0\t0\t0\nend\n" gives "day\t3\t400000000\t390000000\ndaily\t1\t390000000\t975000000000\t38025000000\t41827500000\t83655000000\ndaily\t2\t10000000\t25000000000\t975000000\t1072500000\t2145000000\ntotal\t400000000\t1000000000000\t39000000000\t42900000000\t85800000000\nrefused\t9\t7\n")
     -- surplus member line
     ∷ ("period\t2\t1\nmember\t1\t0\nmember\t2\t0\nmember\t3\t0\nday\t3\t2\nacct\t1\t0\tH\t390000000\t0\t0\t0\nacct\t2\t0\tH\t10000000\t0\t0\t0\nend\n" gives "refused\t9\t4\n")
     -- group 33 before a surplus member line
@@ -173,7 +173,7 @@ texts =
     -- least number for a stress
     ∷ ("period\t2\t1\nmember\t1\t0\nmember\t2\t0\nday\t3\t2\nacct\t1\t0\tH\t390000000\t0\t0\t0\nacct\t2\t0\tH\t0\t0\t0\t-9999999999999\nend\n" gives "refused\t6\t6\n")
     -- base and stress at their limits
-    ∷ ("period\t2\t1\nmember\t1\t0\nmember\t2\t0\nday\t3\t2\nacct\t1\t0\tH\t390000000\t0\t0\t0\nacct\t2\t0\tH\t1000000000000\t0\t0\t-1000000000000\nend\n" gives "day\t3\t2000390000000\t2000000000000\ndaily\t1\t390000000\t194961983\t38992396483\t42891636131\t85783272262\ndaily\t2\t2000000000000\t999805038018\t199961007603517\t219957108363869\t439914216727738\nfund\t1\t2000000000000\t2200000000003\ncontribution\t1\t428916363\t428916363\t857832726\ncontribution\t2\t2199571083640\t2199571083640\t4399142167280\n")
+    ∷ ("period\t2\t1\nmember\t1\t0\nmember\t2\t0\nday\t3\t2\nacct\t1\t0\tH\t390000000\t0\t0\t0\nacct\t2\t0\tH\t1000000000000\t0\t0\t-1000000000000\nend\n" gives "day\t3\t2000390000000\t2000000000000\ndaily\t1\t390000000\t194961983\t38992396483\t42891636131\t85783272262\ndaily\t2\t2000000000000\t999805038018\t199961007603517\t219957108363869\t439914216727738\ntotal\t2000390000000\t1000000000001\t200000000000000\t220000000000000\t440000000000000\nfund\t1\t2000000000000\t2200000000003\ncontribution\t1\t428916363\t428916363\t857832726\ncontribution\t2\t2199571083640\t2199571083640\t4399142167280\n")
     -- margin outside its limit
     ∷ ("period\t2\t1\nmember\t1\t0\nmember\t2\t0\nday\t3\t2\nacct\t1\t0\tH\t0\t1000000000001\t0\t0\nacct\t2\t0\tH\t10000000\t0\t0\t0\nend\n" gives "refused\t6\t5\n")
     -- 6 for the first account, not the first slice
@@ -211,7 +211,7 @@ texts =
     -- last tab
     ∷ ("period\t2\t1\nmember\t1\t0\nmember\t2\t0\nday\t3\t2\nacct\t1\t0\tH\t390000000\t0\t0\t0\t\nacct\t2\t0\tH\t10000000\t0\t0\t0\nend\n" gives "refused\t9\t5\n")
     -- cr after end
-    ∷ ("period\t2\t1\nmember\t1\t0\nmember\t2\t0\nday\t3\t2\nacct\t1\t0\tH\t390000000\t0\t0\t0\nacct\t2\t0\tH\t10000000\t0\t0\t0\nend\r\n" gives "day\t3\t400000000\t390000000\ndaily\t1\t390000000\t975000000000\t38025000000\t41827500000\t83655000000\ndaily\t2\t10000000\t25000000000\t975000000\t1072500000\t2145000000\nrefused\t9\t7\n")
+    ∷ ("period\t2\t1\nmember\t1\t0\nmember\t2\t0\nday\t3\t2\nacct\t1\t0\tH\t390000000\t0\t0\t0\nacct\t2\t0\tH\t10000000\t0\t0\t0\nend\r\n" gives "day\t3\t400000000\t390000000\ndaily\t1\t390000000\t975000000000\t38025000000\t41827500000\t83655000000\ndaily\t2\t10000000\t25000000000\t975000000\t1072500000\t2145000000\ntotal\t400000000\t1000000000000\t39000000000\t42900000000\t85800000000\nrefused\t9\t7\n")
     -- cr after a number
     ∷ ("period\t2\t1\nmember\t1\t0\nmember\t2\t0\nday\t3\t2\nacct\t1\t0\tH\t390000000\t0\t0\t0\r\nacct\t2\t0\tH\t10000000\t0\t0\t0\nend\n" gives "refused\t9\t5\n")
     -- not ascii
@@ -235,11 +235,11 @@ texts =
     -- a first word that goes on
     ∷ ("period\t1\t1\nmember\t1\t0\nday\t3\t1\nacctx\t1\t0\tH\t10\t0\t0\t0\nend\n" gives "refused\t9\t4\n")
     -- M on the first of three days
-    ∷ ("period\t2\t1\nmember\t1\t0\nmember\t2\t0\nday\t1\t2\nacct\t1\t0\tH\t400000000\t0\t0\t0\nacct\t2\t0\tH\t200000000\t0\t0\t0\nday\t2\t2\nacct\t1\t0\tH\t100000000\t0\t0\t0\nacct\t2\t0\tH\t300000000\t0\t0\t0\nday\t3\t2\nacct\t1\t0\tH\t70000000\t0\t0\t0\nacct\t2\t0\tH\t30000000\t0\t0\t0\nend\n" gives "day\t1\t600000000\t400000000\ndaily\t1\t400000000\t666666666667\t26666666667\t29333333333\t58666666667\ndaily\t2\t200000000\t333333333334\t13333333333\t14666666667\t29333333333\nday\t2\t400000000\t300000000\ndaily\t1\t100000000\t250000000000\t7500000000\t8250000000\t16500000000\ndaily\t2\t300000000\t750000000000\t22500000000\t24750000000\t49500000000\nday\t3\t100000000\t70000000\ndaily\t1\t70000000\t700000000000\t4900000000\t5390000000\t10780000000\ndaily\t2\t30000000\t300000000000\t2100000000\t2310000000\t4620000000\nfund\t3\t400000000\t440000001\ncontribution\t1\t237111112\t237111112\t474222224\ncontribution\t2\t202888889\t202888889\t405777778\n")
+    ∷ ("period\t2\t1\nmember\t1\t0\nmember\t2\t0\nday\t1\t2\nacct\t1\t0\tH\t400000000\t0\t0\t0\nacct\t2\t0\tH\t200000000\t0\t0\t0\nday\t2\t2\nacct\t1\t0\tH\t100000000\t0\t0\t0\nacct\t2\t0\tH\t300000000\t0\t0\t0\nday\t3\t2\nacct\t1\t0\tH\t70000000\t0\t0\t0\nacct\t2\t0\tH\t30000000\t0\t0\t0\nend\n" gives "day\t1\t600000000\t400000000\ndaily\t1\t400000000\t666666666667\t26666666667\t29333333333\t58666666667\ndaily\t2\t200000000\t333333333334\t13333333333\t14666666667\t29333333333\ntotal\t600000000\t1000000000001\t40000000000\t44000000000\t88000000000\nday\t2\t400000000\t300000000\ndaily\t1\t100000000\t250000000000\t7500000000\t8250000000\t16500000000\ndaily\t2\t300000000\t750000000000\t22500000000\t24750000000\t49500000000\ntotal\t400000000\t1000000000000\t30000000000\t33000000000\t66000000000\nday\t3\t100000000\t70000000\ndaily\t1\t70000000\t700000000000\t4900000000\t5390000000\t10780000000\ndaily\t2\t30000000\t300000000000\t2100000000\t2310000000\t4620000000\ntotal\t100000000\t1000000000000\t7000000000\t7700000000\t15400000000\nfund\t3\t400000000\t440000001\ncontribution\t1\t237111112\t237111112\t474222224\ncontribution\t2\t202888889\t202888889\t405777778\n")
     -- M on the second of three days
-    ∷ ("period\t2\t1\nmember\t1\t0\nmember\t2\t0\nday\t1\t2\nacct\t1\t0\tH\t100000000\t0\t0\t0\nacct\t2\t0\tH\t300000000\t0\t0\t0\nday\t2\t2\nacct\t1\t0\tH\t400000000\t0\t0\t0\nacct\t2\t0\tH\t200000000\t0\t0\t0\nday\t3\t2\nacct\t1\t0\tH\t70000000\t0\t0\t0\nacct\t2\t0\tH\t30000000\t0\t0\t0\nend\n" gives "day\t1\t400000000\t300000000\ndaily\t1\t100000000\t250000000000\t7500000000\t8250000000\t16500000000\ndaily\t2\t300000000\t750000000000\t22500000000\t24750000000\t49500000000\nday\t2\t600000000\t400000000\ndaily\t1\t400000000\t666666666667\t26666666667\t29333333333\t58666666667\ndaily\t2\t200000000\t333333333334\t13333333333\t14666666667\t29333333333\nday\t3\t100000000\t70000000\ndaily\t1\t70000000\t700000000000\t4900000000\t5390000000\t10780000000\ndaily\t2\t30000000\t300000000000\t2100000000\t2310000000\t4620000000\nfund\t3\t400000000\t440000001\ncontribution\t1\t237111112\t237111112\t474222224\ncontribution\t2\t202888889\t202888889\t405777778\n")
+    ∷ ("period\t2\t1\nmember\t1\t0\nmember\t2\t0\nday\t1\t2\nacct\t1\t0\tH\t100000000\t0\t0\t0\nacct\t2\t0\tH\t300000000\t0\t0\t0\nday\t2\t2\nacct\t1\t0\tH\t400000000\t0\t0\t0\nacct\t2\t0\tH\t200000000\t0\t0\t0\nday\t3\t2\nacct\t1\t0\tH\t70000000\t0\t0\t0\nacct\t2\t0\tH\t30000000\t0\t0\t0\nend\n" gives "day\t1\t400000000\t300000000\ndaily\t1\t100000000\t250000000000\t7500000000\t8250000000\t16500000000\ndaily\t2\t300000000\t750000000000\t22500000000\t24750000000\t49500000000\ntotal\t400000000\t1000000000000\t30000000000\t33000000000\t66000000000\nday\t2\t600000000\t400000000\ndaily\t1\t400000000\t666666666667\t26666666667\t29333333333\t58666666667\ndaily\t2\t200000000\t333333333334\t13333333333\t14666666667\t29333333333\ntotal\t600000000\t1000000000001\t40000000000\t44000000000\t88000000000\nday\t3\t100000000\t70000000\ndaily\t1\t70000000\t700000000000\t4900000000\t5390000000\t10780000000\ndaily\t2\t30000000\t300000000000\t2100000000\t2310000000\t4620000000\ntotal\t100000000\t1000000000000\t7000000000\t7700000000\t15400000000\nfund\t3\t400000000\t440000001\ncontribution\t1\t237111112\t237111112\t474222224\ncontribution\t2\t202888889\t202888889\t405777778\n")
     -- M on the last of three days
-    ∷ ("period\t2\t1\nmember\t1\t0\nmember\t2\t0\nday\t1\t2\nacct\t1\t0\tH\t70000000\t0\t0\t0\nacct\t2\t0\tH\t30000000\t0\t0\t0\nday\t2\t2\nacct\t1\t0\tH\t100000000\t0\t0\t0\nacct\t2\t0\tH\t300000000\t0\t0\t0\nday\t3\t2\nacct\t1\t0\tH\t400000000\t0\t0\t0\nacct\t2\t0\tH\t200000000\t0\t0\t0\nend\n" gives "day\t1\t100000000\t70000000\ndaily\t1\t70000000\t700000000000\t4900000000\t5390000000\t10780000000\ndaily\t2\t30000000\t300000000000\t2100000000\t2310000000\t4620000000\nday\t2\t400000000\t300000000\ndaily\t1\t100000000\t250000000000\t7500000000\t8250000000\t16500000000\ndaily\t2\t300000000\t750000000000\t22500000000\t24750000000\t49500000000\nday\t3\t600000000\t400000000\ndaily\t1\t400000000\t666666666667\t26666666667\t29333333333\t58666666667\ndaily\t2\t200000000\t333333333334\t13333333333\t14666666667\t29333333333\nfund\t3\t400000000\t440000001\ncontribution\t1\t237111112\t237111112\t474222224\ncontribution\t2\t202888889\t202888889\t405777778\n")
+    ∷ ("period\t2\t1\nmember\t1\t0\nmember\t2\t0\nday\t1\t2\nacct\t1\t0\tH\t70000000\t0\t0\t0\nacct\t2\t0\tH\t30000000\t0\t0\t0\nday\t2\t2\nacct\t1\t0\tH\t100000000\t0\t0\t0\nacct\t2\t0\tH\t300000000\t0\t0\t0\nday\t3\t2\nacct\t1\t0\tH\t400000000\t0\t0\t0\nacct\t2\t0\tH\t200000000\t0\t0\t0\nend\n" gives "day\t1\t100000000\t70000000\ndaily\t1\t70000000\t700000000000\t4900000000\t5390000000\t10780000000\ndaily\t2\t30000000\t300000000000\t2100000000\t2310000000\t4620000000\ntotal\t100000000\t1000000000000\t7000000000\t7700000000\t15400000000\nday\t2\t400000000\t300000000\ndaily\t1\t100000000\t250000000000\t7500000000\t8250000000\t16500000000\ndaily\t2\t300000000\t750000000000\t22500000000\t24750000000\t49500000000\ntotal\t400000000\t1000000000000\t30000000000\t33000000000\t66000000000\nday\t3\t600000000\t400000000\ndaily\t1\t400000000\t666666666667\t26666666667\t29333333333\t58666666667\ndaily\t2\t200000000\t333333333334\t13333333333\t14666666667\t29333333333\ntotal\t600000000\t1000000000001\t40000000000\t44000000000\t88000000000\nfund\t3\t400000000\t440000001\ncontribution\t1\t237111112\t237111112\t474222224\ncontribution\t2\t202888889\t202888889\t405777778\n")
     -- a house account of kind h
     ∷ ("period\t1\t1\nmember\t1\t0\nday\t3\t1\nacct\t1\t0\th\t10\t0\t0\t0\nend\n" gives "refused\t5\t4\n")
     -- a house account of kind empty
@@ -275,7 +275,7 @@ texts =
     -- a client of kind R and CR
     ∷ ("period\t1\t1\nmember\t1\t0\nday\t3\t2\nacct\t1\t0\tH\t10\t0\t0\t0\nacct\t1\t1\tR\r\t10\t0\t0\t0\nend\n" gives "refused\t5\t5\n")
     -- every kind
-    ∷ ("period\t1\t1\nmember\t1\t0\nday\t3\t6\nacct\t1\t0\tH\t0\t40\t0\t0\nacct\t1\t1\tR\t60\t0\t0\t0\nacct\t1\t2\tR\t50\t0\t0\t0\nacct\t1\t3\tR\t30\t0\t0\t0\nacct\t1\t4\tA\t7\t0\t0\t0\nacct\t1\t5\tU\t20\t0\t0\t0\nend\n" gives "day\t3\t97\t97\ndaily\t1\t97\t1000000000000\t9700\t10670\t21340\nfund\t1\t97\t50000000\ncontribution\t1\t107\t50000000\t100000000\n")
+    ∷ ("period\t1\t1\nmember\t1\t0\nday\t3\t6\nacct\t1\t0\tH\t0\t40\t0\t0\nacct\t1\t1\tR\t60\t0\t0\t0\nacct\t1\t2\tR\t50\t0\t0\t0\nacct\t1\t3\tR\t30\t0\t0\t0\nacct\t1\t4\tA\t7\t0\t0\t0\nacct\t1\t5\tU\t20\t0\t0\t0\nend\n" gives "day\t3\t97\t97\ndaily\t1\t97\t1000000000000\t9700\t10670\t21340\ntotal\t97\t1000000000000\t9700\t10670\t21340\nfund\t1\t97\t50000000\ncontribution\t1\t107\t50000000\t100000000\n")
     -- colon for a digit
     ∷ ("period\t1\t1\nmember\t1\t0\nday\t3\t1\nacct\t1\t0\tH\t:\t0\t0\t0\nend\n" gives "refused\t9\t4\n")
     -- slash for a digit
@@ -291,9 +291,9 @@ texts =
     -- 100000000000x for a number
     ∷ ("period\t1\t1\nmember\t1\t0\nday\t3\t1\nacct\t1\t0\tH\t100000000000x\t0\t0\t0\nend\n" gives "refused\t9\t4\n")
     -- scenario 16 alone, group 32, day 31
-    ∷ ("period\t2\t16\nmember\t1\t32\nmember\t2\t32\nday\t31\t2\nacct\t1\t0\tH\t5\t0\t0\t5\t5\t5\t5\t5\t5\t5\t5\t5\t5\t5\t5\t5\t5\t5\t2\nacct\t2\t0\tH\t9\t0\t0\t9\t9\t9\t9\t9\t9\t9\t9\t9\t9\t9\t9\t9\t9\t9\t5\nend\n" gives "day\t31\t7\t7\ndaily\t1\t3\t428571428572\t300\t330\t660\ndaily\t2\t4\t571428571429\t400\t440\t880\nfund\t1\t7\t100000000\ncontribution\t1\t4\t50000000\t100000000\ncontribution\t2\t5\t50000000\t100000000\n")
+    ∷ ("period\t2\t16\nmember\t1\t32\nmember\t2\t32\nday\t31\t2\nacct\t1\t0\tH\t5\t0\t0\t5\t5\t5\t5\t5\t5\t5\t5\t5\t5\t5\t5\t5\t5\t5\t2\nacct\t2\t0\tH\t9\t0\t0\t9\t9\t9\t9\t9\t9\t9\t9\t9\t9\t9\t9\t9\t9\t9\t5\nend\n" gives "day\t31\t7\t7\ndaily\t1\t3\t428571428572\t300\t330\t660\ndaily\t2\t4\t571428571429\t400\t440\t880\ntotal\t7\t1000000000001\t700\t770\t1540\nfund\t1\t7\t100000000\ncontribution\t1\t4\t50000000\t100000000\ncontribution\t2\t5\t50000000\t100000000\n")
     -- member 32
-    ∷ ("period\t32\t1\nmember\t1\t0\nmember\t2\t0\nmember\t3\t0\nmember\t4\t0\nmember\t5\t0\nmember\t6\t0\nmember\t7\t0\nmember\t8\t0\nmember\t9\t0\nmember\t10\t0\nmember\t11\t0\nmember\t12\t0\nmember\t13\t0\nmember\t14\t0\nmember\t15\t0\nmember\t16\t0\nmember\t17\t0\nmember\t18\t0\nmember\t19\t0\nmember\t20\t0\nmember\t21\t0\nmember\t22\t0\nmember\t23\t0\nmember\t24\t0\nmember\t25\t0\nmember\t26\t0\nmember\t27\t0\nmember\t28\t0\nmember\t29\t0\nmember\t30\t0\nmember\t31\t32\nmember\t32\t32\nday\t31\t32\nacct\t1\t0\tH\t1\t0\t0\t0\nacct\t2\t0\tH\t1\t0\t0\t0\nacct\t3\t0\tH\t1\t0\t0\t0\nacct\t4\t0\tH\t1\t0\t0\t0\nacct\t5\t0\tH\t1\t0\t0\t0\nacct\t6\t0\tH\t1\t0\t0\t0\nacct\t7\t0\tH\t1\t0\t0\t0\nacct\t8\t0\tH\t1\t0\t0\t0\nacct\t9\t0\tH\t1\t0\t0\t0\nacct\t10\t0\tH\t1\t0\t0\t0\nacct\t11\t0\tH\t1\t0\t0\t0\nacct\t12\t0\tH\t1\t0\t0\t0\nacct\t13\t0\tH\t1\t0\t0\t0\nacct\t14\t0\tH\t1\t0\t0\t0\nacct\t15\t0\tH\t1\t0\t0\t0\nacct\t16\t0\tH\t1\t0\t0\t0\nacct\t17\t0\tH\t1\t0\t0\t0\nacct\t18\t0\tH\t1\t0\t0\t0\nacct\t19\t0\tH\t1\t0\t0\t0\nacct\t20\t0\tH\t1\t0\t0\t0\nacct\t21\t0\tH\t1\t0\t0\t0\nacct\t22\t0\tH\t1\t0\t0\t0\nacct\t23\t0\tH\t1\t0\t0\t0\nacct\t24\t0\tH\t1\t0\t0\t0\nacct\t25\t0\tH\t1\t0\t0\t0\nacct\t26\t0\tH\t1\t0\t0\t0\nacct\t27\t0\tH\t1\t0\t0\t0\nacct\t28\t0\tH\t1\t0\t0\t0\nacct\t29\t0\tH\t1\t0\t0\t0\nacct\t30\t0\tH\t1\t0\t0\t0\nacct\t31\t0\tH\t1\t0\t0\t0\nacct\t32\t0\tH\t9\t0\t0\t0\nend\n" gives "day\t31\t40\t10\ndaily\t1\t1\t25000000000\t25\t28\t55\ndaily\t2\t1\t25000000000\t25\t28\t55\ndaily\t3\t1\t25000000000\t25\t28\t55\ndaily\t4\t1\t25000000000\t25\t28\t55\ndaily\t5\t1\t25000000000\t25\t28\t55\ndaily\t6\t1\t25000000000\t25\t28\t55\ndaily\t7\t1\t25000000000\t25\t28\t55\ndaily\t8\t1\t25000000000\t25\t28\t55\ndaily\t9\t1\t25000000000\t25\t28\t55\ndaily\t10\t1\t25000000000\t25\t28\t55\ndaily\t11\t1\t25000000000\t25\t28\t55\ndaily\t12\t1\t25000000000\t25\t28\t55\ndaily\t13\t1\t25000000000\t25\t28\t55\ndaily\t14\t1\t25000000000\t25\t28\t55\ndaily\t15\t1\t25000000000\t25\t28\t55\ndaily\t16\t1\t25000000000\t25\t28\t55\ndaily\t17\t1\t25000000000\t25\t28\t55\ndaily\t18\t1\t25000000000\t25\t28\t55\ndaily\t19\t1\t25000000000\t25\t28\t55\ndaily\t20\t1\t25000000000\t25\t28\t55\ndaily\t21\t1\t25000000000\t25\t28\t55\ndaily\t22\t1\t25000000000\t25\t28\t55\ndaily\t23\t1\t25000000000\t25\t28\t55\ndaily\t24\t1\t25000000000\t25\t28\t55\ndaily\t25\t1\t25000000000\t25\t28\t55\ndaily\t26\t1\t25000000000\t25\t28\t55\ndaily\t27\t1\t25000000000\t25\t28\t55\ndaily\t28\t1\t25000000000\t25\t28\t55\ndaily\t29\t1\t25000000000\t25\t28\t55\ndaily\t30\t1\t25000000000\t25\t28\t55\ndaily\t31\t1\t25000000000\t25\t28\t55\ndaily\t32\t9\t225000000000\t225\t248\t495\nfund\t1\t10\t1600000000\ncontribution\t1\t1\t50000000\t100000000\ncontribution\t2\t1\t50000000\t100000000\ncontribution\t3\t1\t50000000\t100000000\ncontribution\t4\t1\t50000000\t100000000\ncontribution\t5\t1\t50000000\t100000000\ncontribution\t6\t1\t50000000\t100000000\ncontribution\t7\t1\t50000000\t100000000\ncontribution\t8\t1\t50000000\t100000000\ncontribution\t9\t1\t50000000\t100000000\ncontribution\t10\t1\t50000000\t100000000\ncontribution\t11\t1\t50000000\t100000000\ncontribution\t12\t1\t50000000\t100000000\ncontribution\t13\t1\t50000000\t100000000\ncontribution\t14\t1\t50000000\t100000000\ncontribution\t15\t1\t50000000\t100000000\ncontribution\t16\t1\t50000000\t100000000\ncontribution\t17\t1\t50000000\t100000000\ncontribution\t18\t1\t50000000\t100000000\ncontribution\t19\t1\t50000000\t100000000\ncontribution\t20\t1\t50000000\t100000000\ncontribution\t21\t1\t50000000\t100000000\ncontribution\t22\t1\t50000000\t100000000\ncontribution\t23\t1\t50000000\t100000000\ncontribution\t24\t1\t50000000\t100000000\ncontribution\t25\t1\t50000000\t100000000\ncontribution\t26\t1\t50000000\t100000000\ncontribution\t27\t1\t50000000\t100000000\ncontribution\t28\t1\t50000000\t100000000\ncontribution\t29\t1\t50000000\t100000000\ncontribution\t30\t1\t50000000\t100000000\ncontribution\t31\t1\t50000000\t100000000\ncontribution\t32\t3\t50000000\t100000000\n")
+    ∷ ("period\t32\t1\nmember\t1\t0\nmember\t2\t0\nmember\t3\t0\nmember\t4\t0\nmember\t5\t0\nmember\t6\t0\nmember\t7\t0\nmember\t8\t0\nmember\t9\t0\nmember\t10\t0\nmember\t11\t0\nmember\t12\t0\nmember\t13\t0\nmember\t14\t0\nmember\t15\t0\nmember\t16\t0\nmember\t17\t0\nmember\t18\t0\nmember\t19\t0\nmember\t20\t0\nmember\t21\t0\nmember\t22\t0\nmember\t23\t0\nmember\t24\t0\nmember\t25\t0\nmember\t26\t0\nmember\t27\t0\nmember\t28\t0\nmember\t29\t0\nmember\t30\t0\nmember\t31\t32\nmember\t32\t32\nday\t31\t32\nacct\t1\t0\tH\t1\t0\t0\t0\nacct\t2\t0\tH\t1\t0\t0\t0\nacct\t3\t0\tH\t1\t0\t0\t0\nacct\t4\t0\tH\t1\t0\t0\t0\nacct\t5\t0\tH\t1\t0\t0\t0\nacct\t6\t0\tH\t1\t0\t0\t0\nacct\t7\t0\tH\t1\t0\t0\t0\nacct\t8\t0\tH\t1\t0\t0\t0\nacct\t9\t0\tH\t1\t0\t0\t0\nacct\t10\t0\tH\t1\t0\t0\t0\nacct\t11\t0\tH\t1\t0\t0\t0\nacct\t12\t0\tH\t1\t0\t0\t0\nacct\t13\t0\tH\t1\t0\t0\t0\nacct\t14\t0\tH\t1\t0\t0\t0\nacct\t15\t0\tH\t1\t0\t0\t0\nacct\t16\t0\tH\t1\t0\t0\t0\nacct\t17\t0\tH\t1\t0\t0\t0\nacct\t18\t0\tH\t1\t0\t0\t0\nacct\t19\t0\tH\t1\t0\t0\t0\nacct\t20\t0\tH\t1\t0\t0\t0\nacct\t21\t0\tH\t1\t0\t0\t0\nacct\t22\t0\tH\t1\t0\t0\t0\nacct\t23\t0\tH\t1\t0\t0\t0\nacct\t24\t0\tH\t1\t0\t0\t0\nacct\t25\t0\tH\t1\t0\t0\t0\nacct\t26\t0\tH\t1\t0\t0\t0\nacct\t27\t0\tH\t1\t0\t0\t0\nacct\t28\t0\tH\t1\t0\t0\t0\nacct\t29\t0\tH\t1\t0\t0\t0\nacct\t30\t0\tH\t1\t0\t0\t0\nacct\t31\t0\tH\t1\t0\t0\t0\nacct\t32\t0\tH\t9\t0\t0\t0\nend\n" gives "day\t31\t40\t10\ndaily\t1\t1\t25000000000\t25\t28\t55\ndaily\t2\t1\t25000000000\t25\t28\t55\ndaily\t3\t1\t25000000000\t25\t28\t55\ndaily\t4\t1\t25000000000\t25\t28\t55\ndaily\t5\t1\t25000000000\t25\t28\t55\ndaily\t6\t1\t25000000000\t25\t28\t55\ndaily\t7\t1\t25000000000\t25\t28\t55\ndaily\t8\t1\t25000000000\t25\t28\t55\ndaily\t9\t1\t25000000000\t25\t28\t55\ndaily\t10\t1\t25000000000\t25\t28\t55\ndaily\t11\t1\t25000000000\t25\t28\t55\ndaily\t12\t1\t25000000000\t25\t28\t55\ndaily\t13\t1\t25000000000\t25\t28\t55\ndaily\t14\t1\t25000000000\t25\t28\t55\ndaily\t15\t1\t25000000000\t25\t28\t55\ndaily\t16\t1\t25000000000\t25\t28\t55\ndaily\t17\t1\t25000000000\t25\t28\t55\ndaily\t18\t1\t25000000000\t25\t28\t55\ndaily\t19\t1\t25000000000\t25\t28\t55\ndaily\t20\t1\t25000000000\t25\t28\t55\ndaily\t21\t1\t25000000000\t25\t28\t55\ndaily\t22\t1\t25000000000\t25\t28\t55\ndaily\t23\t1\t25000000000\t25\t28\t55\ndaily\t24\t1\t25000000000\t25\t28\t55\ndaily\t25\t1\t25000000000\t25\t28\t55\ndaily\t26\t1\t25000000000\t25\t28\t55\ndaily\t27\t1\t25000000000\t25\t28\t55\ndaily\t28\t1\t25000000000\t25\t28\t55\ndaily\t29\t1\t25000000000\t25\t28\t55\ndaily\t30\t1\t25000000000\t25\t28\t55\ndaily\t31\t1\t25000000000\t25\t28\t55\ndaily\t32\t9\t225000000000\t225\t248\t495\ntotal\t40\t1000000000000\t1000\t1116\t2200\nfund\t1\t10\t1600000000\ncontribution\t1\t1\t50000000\t100000000\ncontribution\t2\t1\t50000000\t100000000\ncontribution\t3\t1\t50000000\t100000000\ncontribution\t4\t1\t50000000\t100000000\ncontribution\t5\t1\t50000000\t100000000\ncontribution\t6\t1\t50000000\t100000000\ncontribution\t7\t1\t50000000\t100000000\ncontribution\t8\t1\t50000000\t100000000\ncontribution\t9\t1\t50000000\t100000000\ncontribution\t10\t1\t50000000\t100000000\ncontribution\t11\t1\t50000000\t100000000\ncontribution\t12\t1\t50000000\t100000000\ncontribution\t13\t1\t50000000\t100000000\ncontribution\t14\t1\t50000000\t100000000\ncontribution\t15\t1\t50000000\t100000000\ncontribution\t16\t1\t50000000\t100000000\ncontribution\t17\t1\t50000000\t100000000\ncontribution\t18\t1\t50000000\t100000000\ncontribution\t19\t1\t50000000\t100000000\ncontribution\t20\t1\t50000000\t100000000\ncontribution\t21\t1\t50000000\t100000000\ncontribution\t22\t1\t50000000\t100000000\ncontribution\t23\t1\t50000000\t100000000\ncontribution\t24\t1\t50000000\t100000000\ncontribution\t25\t1\t50000000\t100000000\ncontribution\t26\t1\t50000000\t100000000\ncontribution\t27\t1\t50000000\t100000000\ncontribution\t28\t1\t50000000\t100000000\ncontribution\t29\t1\t50000000\t100000000\ncontribution\t30\t1\t50000000\t100000000\ncontribution\t31\t1\t50000000\t100000000\ncontribution\t32\t3\t50000000\t100000000\n")
     -- 5 at account 255
     ∷ ("period\t1\t1\nmember\t1\t0\nday\t1\t256\nacct\t1\t0\tH\t1\t0\t0\t0\nacct\t1\t1\tU\t1\t0\t0\t0\nacct\t1\t2\tU\t1\t0\t0\t0\nacct\t1\t3\tU\t1\t0\t0\t0\nacct\t1\t4\tU\t1\t0\t0\t0\nacct\t1\t5\tU\t1\t0\t0\t0\nacct\t1\t6\tU\t1\t0\t0\t0\nacct\t1\t7\tU\t1\t0\t0\t0\nacct\t1\t8\tU\t1\t0\t0\t0\nacct\t1\t9\tU\t1\t0\t0\t0\nacct\t1\t10\tU\t1\t0\t0\t0\nacct\t1\t11\tU\t1\t0\t0\t0\nacct\t1\t12\tU\t1\t0\t0\t0\nacct\t1\t13\tU\t1\t0\t0\t0\nacct\t1\t14\tU\t1\t0\t0\t0\nacct\t1\t15\tU\t1\t0\t0\t0\nacct\t1\t16\tU\t1\t0\t0\t0\nacct\t1\t17\tU\t1\t0\t0\t0\nacct\t1\t18\tU\t1\t0\t0\t0\nacct\t1\t19\tU\t1\t0\t0\t0\nacct\t1\t20\tU\t1\t0\t0\t0\nacct\t1\t21\tU\t1\t0\t0\t0\nacct\t1\t22\tU\t1\t0\t0\t0\nacct\t1\t23\tU\t1\t0\t0\t0\nacct\t1\t24\tU\t1\t0\t0\t0\nacct\t1\t25\tU\t1\t0\t0\t0\nacct\t1\t26\tU\t1\t0\t0\t0\nacct\t1\t27\tU\t1\t0\t0\t0\nacct\t1\t28\tU\t1\t0\t0\t0\nacct\t1\t29\tU\t1\t0\t0\t0\nacct\t1\t30\tU\t1\t0\t0\t0\nacct\t1\t31\tU\t1\t0\t0\t0\nacct\t1\t32\tU\t1\t0\t0\t0\nacct\t1\t33\tU\t1\t0\t0\t0\nacct\t1\t34\tU\t1\t0\t0\t0\nacct\t1\t35\tU\t1\t0\t0\t0\nacct\t1\t36\tU\t1\t0\t0\t0\nacct\t1\t37\tU\t1\t0\t0\t0\nacct\t1\t38\tU\t1\t0\t0\t0\nacct\t1\t39\tU\t1\t0\t0\t0\nacct\t1\t40\tU\t1\t0\t0\t0\nacct\t1\t41\tU\t1\t0\t0\t0\nacct\t1\t42\tU\t1\t0\t0\t0\nacct\t1\t43\tU\t1\t0\t0\t0\nacct\t1\t44\tU\t1\t0\t0\t0\nacct\t1\t45\tU\t1\t0\t0\t0\nacct\t1\t46\tU\t1\t0\t0\t0\nacct\t1\t47\tU\t1\t0\t0\t0\nacct\t1\t48\tU\t1\t0\t0\t0\nacct\t1\t49\tU\t1\t0\t0\t0\nacct\t1\t50\tU\t1\t0\t0\t0\nacct\t1\t51\tU\t1\t0\t0\t0\nacct\t1\t52\tU\t1\t0\t0\t0\nacct\t1\t53\tU\t1\t0\t0\t0\nacct\t1\t54\tU\t1\t0\t0\t0\nacct\t1\t55\tU\t1\t0\t0\t0\nacct\t1\t56\tU\t1\t0\t0\t0\nacct\t1\t57\tU\t1\t0\t0\t0\nacct\t1\t58\tU\t1\t0\t0\t0\nacct\t1\t59\tU\t1\t0\t0\t0\nacct\t1\t60\tU\t1\t0\t0\t0\nacct\t1\t61\tU\t1\t0\t0\t0\nacct\t1\t62\tU\t1\t0\t0\t0\nacct\t1\t63\tU\t1\t0\t0\t0\nacct\t1\t64\tU\t1\t0\t0\t0\nacct\t1\t65\tU\t1\t0\t0\t0\nacct\t1\t66\tU\t1\t0\t0\t0\nacct\t1\t67\tU\t1\t0\t0\t0\nacct\t1\t68\tU\t1\t0\t0\t0\nacct\t1\t69\tU\t1\t0\t0\t0\nacct\t1\t70\tU\t1\t0\t0\t0\nacct\t1\t71\tU\t1\t0\t0\t0\nacct\t1\t72\tU\t1\t0\t0\t0\nacct\t1\t73\tU\t1\t0\t0\t0\nacct\t1\t74\tU\t1\t0\t0\t0\nacct\t1\t75\tU\t1\t0\t0\t0\nacct\t1\t76\tU\t1\t0\t0\t0\nacct\t1\t77\tU\t1\t0\t0\t0\nacct\t1\t78\tU\t1\t0\t0\t0\nacct\t1\t79\tU\t1\t0\t0\t0\nacct\t1\t80\tU\t1\t0\t0\t0\nacct\t1\t81\tU\t1\t0\t0\t0\nacct\t1\t82\tU\t1\t0\t0\t0\nacct\t1\t83\tU\t1\t0\t0\t0\nacct\t1\t84\tU\t1\t0\t0\t0\nacct\t1\t85\tU\t1\t0\t0\t0\nacct\t1\t86\tU\t1\t0\t0\t0\nacct\t1\t87\tU\t1\t0\t0\t0\nacct\t1\t88\tU\t1\t0\t0\t0\nacct\t1\t89\tU\t1\t0\t0\t0\nacct\t1\t90\tU\t1\t0\t0\t0\nacct\t1\t91\tU\t1\t0\t0\t0\nacct\t1\t92\tU\t1\t0\t0\t0\nacct\t1\t93\tU\t1\t0\t0\t0\nacct\t1\t94\tU\t1\t0\t0\t0\nacct\t1\t95\tU\t1\t0\t0\t0\nacct\t1\t96\tU\t1\t0\t0\t0\nacct\t1\t97\tU\t1\t0\t0\t0\nacct\t1\t98\tU\t1\t0\t0\t0\nacct\t1\t99\tU\t1\t0\t0\t0\nacct\t1\t100\tU\t1\t0\t0\t0\nacct\t1\t101\tU\t1\t0\t0\t0\nacct\t1\t102\tU\t1\t0\t0\t0\nacct\t1\t103\tU\t1\t0\t0\t0\nacct\t1\t104\tU\t1\t0\t0\t0\nacct\t1\t105\tU\t1\t0\t0\t0\nacct\t1\t106\tU\t1\t0\t0\t0\nacct\t1\t107\tU\t1\t0\t0\t0\nacct\t1\t108\tU\t1\t0\t0\t0\nacct\t1\t109\tU\t1\t0\t0\t0\nacct\t1\t110\tU\t1\t0\t0\t0\nacct\t1\t111\tU\t1\t0\t0\t0\nacct\t1\t112\tU\t1\t0\t0\t0\nacct\t1\t113\tU\t1\t0\t0\t0\nacct\t1\t114\tU\t1\t0\t0\t0\nacct\t1\t115\tU\t1\t0\t0\t0\nacct\t1\t116\tU\t1\t0\t0\t0\nacct\t1\t117\tU\t1\t0\t0\t0\nacct\t1\t118\tU\t1\t0\t0\t0\nacct\t1\t119\tU\t1\t0\t0\t0\nacct\t1\t120\tU\t1\t0\t0\t0\nacct\t1\t121\tU\t1\t0\t0\t0\nacct\t1\t122\tU\t1\t0\t0\t0\nacct\t1\t123\tU\t1\t0\t0\t0\nacct\t1\t124\tU\t1\t0\t0\t0\nacct\t1\t125\tU\t1\t0\t0\t0\nacct\t1\t126\tU\t1\t0\t0\t0\nacct\t1\t127\tU\t1\t0\t0\t0\nacct\t1\t128\tU\t1\t0\t0\t0\nacct\t1\t129\tU\t1\t0\t0\t0\nacct\t1\t130\tU\t1\t0\t0\t0\nacct\t1\t131\tU\t1\t0\t0\t0\nacct\t1\t132\tU\t1\t0\t0\t0\nacct\t1\t133\tU\t1\t0\t0\t0\nacct\t1\t134\tU\t1\t0\t0\t0\nacct\t1\t135\tU\t1\t0\t0\t0\nacct\t1\t136\tU\t1\t0\t0\t0\nacct\t1\t137\tU\t1\t0\t0\t0\nacct\t1\t138\tU\t1\t0\t0\t0\nacct\t1\t139\tU\t1\t0\t0\t0\nacct\t1\t140\tU\t1\t0\t0\t0\nacct\t1\t141\tU\t1\t0\t0\t0\nacct\t1\t142\tU\t1\t0\t0\t0\nacct\t1\t143\tU\t1\t0\t0\t0\nacct\t1\t144\tU\t1\t0\t0\t0\nacct\t1\t145\tU\t1\t0\t0\t0\nacct\t1\t146\tU\t1\t0\t0\t0\nacct\t1\t147\tU\t1\t0\t0\t0\nacct\t1\t148\tU\t1\t0\t0\t0\nacct\t1\t149\tU\t1\t0\t0\t0\nacct\t1\t150\tU\t1\t0\t0\t0\nacct\t1\t151\tU\t1\t0\t0\t0\nacct\t1\t152\tU\t1\t0\t0\t0\nacct\t1\t153\tU\t1\t0\t0\t0\nacct\t1\t154\tU\t1\t0\t0\t0\nacct\t1\t155\tU\t1\t0\t0\t0\nacct\t1\t156\tU\t1\t0\t0\t0\nacct\t1\t157\tU\t1\t0\t0\t0\nacct\t1\t158\tU\t1\t0\t0\t0\nacct\t1\t159\tU\t1\t0\t0\t0\nacct\t1\t160\tU\t1\t0\t0\t0\nacct\t1\t161\tU\t1\t0\t0\t0\nacct\t1\t162\tU\t1\t0\t0\t0\nacct\t1\t163\tU\t1\t0\t0\t0\nacct\t1\t164\tU\t1\t0\t0\t0\nacct\t1\t165\tU\t1\t0\t0\t0\nacct\t1\t166\tU\t1\t0\t0\t0\nacct\t1\t167\tU\t1\t0\t0\t0\nacct\t1\t168\tU\t1\t0\t0\t0\nacct\t1\t169\tU\t1\t0\t0\t0\nacct\t1\t170\tU\t1\t0\t0\t0\nacct\t1\t171\tU\t1\t0\t0\t0\nacct\t1\t172\tU\t1\t0\t0\t0\nacct\t1\t173\tU\t1\t0\t0\t0\nacct\t1\t174\tU\t1\t0\t0\t0\nacct\t1\t175\tU\t1\t0\t0\t0\nacct\t1\t176\tU\t1\t0\t0\t0\nacct\t1\t177\tU\t1\t0\t0\t0\nacct\t1\t178\tU\t1\t0\t0\t0\nacct\t1\t179\tU\t1\t0\t0\t0\nacct\t1\t180\tU\t1\t0\t0\t0\nacct\t1\t181\tU\t1\t0\t0\t0\nacct\t1\t182\tU\t1\t0\t0\t0\nacct\t1\t183\tU\t1\t0\t0\t0\nacct\t1\t184\tU\t1\t0\t0\t0\nacct\t1\t185\tU\t1\t0\t0\t0\nacct\t1\t186\tU\t1\t0\t0\t0\nacct\t1\t187\tU\t1\t0\t0\t0\nacct\t1\t188\tU\t1\t0\t0\t0\nacct\t1\t189\tU\t1\t0\t0\t0\nacct\t1\t190\tU\t1\t0\t0\t0\nacct\t1\t191\tU\t1\t0\t0\t0\nacct\t1\t192\tU\t1\t0\t0\t0\nacct\t1\t193\tU\t1\t0\t0\t0\nacct\t1\t194\tU\t1\t0\t0\t0\nacct\t1\t195\tU\t1\t0\t0\t0\nacct\t1\t196\tU\t1\t0\t0\t0\nacct\t1\t197\tU\t1\t0\t0\t0\nacct\t1\t198\tU\t1\t0\t0\t0\nacct\t1\t199\tU\t1\t0\t0\t0\nacct\t1\t200\tU\t1\t0\t0\t0\nacct\t1\t201\tU\t1\t0\t0\t0\nacct\t1\t202\tU\t1\t0\t0\t0\nacct\t1\t203\tU\t1\t0\t0\t0\nacct\t1\t204\tU\t1\t0\t0\t0\nacct\t1\t205\tU\t1\t0\t0\t0\nacct\t1\t206\tU\t1\t0\t0\t0\nacct\t1\t207\tU\t1\t0\t0\t0\nacct\t1\t208\tU\t1\t0\t0\t0\nacct\t1\t209\tU\t1\t0\t0\t0\nacct\t1\t210\tU\t1\t0\t0\t0\nacct\t1\t211\tU\t1\t0\t0\t0\nacct\t1\t212\tU\t1\t0\t0\t0\nacct\t1\t213\tU\t1\t0\t0\t0\nacct\t1\t214\tU\t1\t0\t0\t0\nacct\t1\t215\tU\t1\t0\t0\t0\nacct\t1\t216\tU\t1\t0\t0\t0\nacct\t1\t217\tU\t1\t0\t0\t0\nacct\t1\t218\tU\t1\t0\t0\t0\nacct\t1\t219\tU\t1\t0\t0\t0\nacct\t1\t220\tU\t1\t0\t0\t0\nacct\t1\t221\tU\t1\t0\t0\t0\nacct\t1\t222\tU\t1\t0\t0\t0\nacct\t1\t223\tU\t1\t0\t0\t0\nacct\t1\t224\tU\t1\t0\t0\t0\nacct\t1\t225\tU\t1\t0\t0\t0\nacct\t1\t226\tU\t1\t0\t0\t0\nacct\t1\t227\tU\t1\t0\t0\t0\nacct\t1\t228\tU\t1\t0\t0\t0\nacct\t1\t229\tU\t1\t0\t0\t0\nacct\t1\t230\tU\t1\t0\t0\t0\nacct\t1\t231\tU\t1\t0\t0\t0\nacct\t1\t232\tU\t1\t0\t0\t0\nacct\t1\t233\tU\t1\t0\t0\t0\nacct\t1\t234\tU\t1\t0\t0\t0\nacct\t1\t235\tU\t1\t0\t0\t0\nacct\t1\t236\tU\t1\t0\t0\t0\nacct\t1\t237\tU\t1\t0\t0\t0\nacct\t1\t238\tU\t1\t0\t0\t0\nacct\t1\t239\tU\t1\t0\t0\t0\nacct\t1\t240\tU\t1\t0\t0\t0\nacct\t1\t241\tU\t1\t0\t0\t0\nacct\t1\t242\tU\t1\t0\t0\t0\nacct\t1\t243\tU\t1\t0\t0\t0\nacct\t1\t244\tU\t1\t0\t0\t0\nacct\t1\t245\tU\t1\t0\t0\t0\nacct\t1\t246\tU\t1\t0\t0\t0\nacct\t1\t247\tU\t1\t0\t0\t0\nacct\t1\t248\tU\t1\t0\t0\t0\nacct\t1\t249\tU\t1\t0\t0\t0\nacct\t1\t250\tU\t1\t0\t0\t0\nacct\t1\t251\tU\t1\t0\t0\t0\nacct\t1\t252\tU\t1\t0\t0\t0\nacct\t1\t253\tU\t1\t0\t0\t0\nacct\t1\t254\tU\t1\t0\t0\t0\nacct\t1\t65536\tU\t1\t0\t0\t0\nend\n" gives "refused\t5\t259\n")
     -- a period line of a field too few
@@ -331,9 +331,9 @@ texts =
     -- acc for a word
     ∷ ("period\t2\t1\nmember\t1\t0\nmember\t2\t0\nday\t3\t2\nacc\t1\t0\tH\t390000000\t0\t0\t0\nacct\t2\t0\tH\t10000000\t0\t0\t0\nend\n" gives "refused\t9\t5\n")
     -- enx for a word
-    ∷ ("period\t2\t1\nmember\t1\t0\nmember\t2\t0\nday\t3\t2\nacct\t1\t0\tH\t390000000\t0\t0\t0\nacct\t2\t0\tH\t10000000\t0\t0\t0\nenx\n" gives "day\t3\t400000000\t390000000\ndaily\t1\t390000000\t975000000000\t38025000000\t41827500000\t83655000000\ndaily\t2\t10000000\t25000000000\t975000000\t1072500000\t2145000000\nrefused\t9\t7\n")
+    ∷ ("period\t2\t1\nmember\t1\t0\nmember\t2\t0\nday\t3\t2\nacct\t1\t0\tH\t390000000\t0\t0\t0\nacct\t2\t0\tH\t10000000\t0\t0\t0\nenx\n" gives "day\t3\t400000000\t390000000\ndaily\t1\t390000000\t975000000000\t38025000000\t41827500000\t83655000000\ndaily\t2\t10000000\t25000000000\t975000000\t1072500000\t2145000000\ntotal\t400000000\t1000000000000\t39000000000\t42900000000\t85800000000\nrefused\t9\t7\n")
     -- en for a word
-    ∷ ("period\t2\t1\nmember\t1\t0\nmember\t2\t0\nday\t3\t2\nacct\t1\t0\tH\t390000000\t0\t0\t0\nacct\t2\t0\tH\t10000000\t0\t0\t0\nen\n" gives "day\t3\t400000000\t390000000\ndaily\t1\t390000000\t975000000000\t38025000000\t41827500000\t83655000000\ndaily\t2\t10000000\t25000000000\t975000000\t1072500000\t2145000000\nrefused\t9\t7\n")
+    ∷ ("period\t2\t1\nmember\t1\t0\nmember\t2\t0\nday\t3\t2\nacct\t1\t0\tH\t390000000\t0\t0\t0\nacct\t2\t0\tH\t10000000\t0\t0\t0\nen\n" gives "day\t3\t400000000\t390000000\ndaily\t1\t390000000\t975000000000\t38025000000\t41827500000\t83655000000\ndaily\t2\t10000000\t25000000000\t975000000\t1072500000\t2145000000\ntotal\t400000000\t1000000000000\t39000000000\t42900000000\t85800000000\nrefused\t9\t7\n")
     -- k 17 before a bad member line
     ∷ ("period\t2\t17\nx\n" gives "refused\t1\t1\n")
     -- n 33 before a bad member line
@@ -343,23 +343,23 @@ texts =
     -- count 0 at line 3
     ∷ ("period\t1\t1\nmember\t1\t0\nday\t3\t0\nend\n" gives "refused\t4\t3\n")
     -- count 257 on a second day
-    ∷ ("period\t1\t1\nmember\t1\t0\nday\t1\t1\nacct\t1\t0\tH\t10\t0\t0\t0\nday\t2\t257\nend\n" gives "day\t1\t10\t10\ndaily\t1\t10\t1000000000000\t1000\t1100\t2200\nrefused\t4\t5\n")
+    ∷ ("period\t1\t1\nmember\t1\t0\nday\t1\t1\nacct\t1\t0\tH\t10\t0\t0\t0\nday\t2\t257\nend\n" gives "day\t1\t10\t10\ndaily\t1\t10\t1000000000000\t1000\t1100\t2200\ntotal\t10\t1000000000000\t1000\t1100\t2200\nrefused\t4\t5\n")
     -- 3 on a second day
-    ∷ ("period\t1\t1\nmember\t1\t0\nday\t1\t1\nacct\t1\t0\tH\t10\t0\t0\t0\nday\t1\t1\nacct\t1\t0\tH\t10\t0\t0\t0\nend\n" gives "day\t1\t10\t10\ndaily\t1\t10\t1000000000000\t1000\t1100\t2200\nrefused\t3\t5\n")
+    ∷ ("period\t1\t1\nmember\t1\t0\nday\t1\t1\nacct\t1\t0\tH\t10\t0\t0\t0\nday\t1\t1\nacct\t1\t0\tH\t10\t0\t0\t0\nend\n" gives "day\t1\t10\t10\ndaily\t1\t10\t1000000000000\t1000\t1100\t2200\ntotal\t10\t1000000000000\t1000\t1100\t2200\nrefused\t3\t5\n")
     -- 5 on a second day
-    ∷ ("period\t1\t1\nmember\t1\t0\nday\t1\t1\nacct\t1\t0\tH\t10\t0\t0\t0\nday\t2\t2\nacct\t1\t0\tH\t10\t0\t0\t0\nacct\t1\t0\tH\t10\t0\t0\t0\nend\n" gives "day\t1\t10\t10\ndaily\t1\t10\t1000000000000\t1000\t1100\t2200\nrefused\t5\t7\n")
+    ∷ ("period\t1\t1\nmember\t1\t0\nday\t1\t1\nacct\t1\t0\tH\t10\t0\t0\t0\nday\t2\t2\nacct\t1\t0\tH\t10\t0\t0\t0\nacct\t1\t0\tH\t10\t0\t0\t0\nend\n" gives "day\t1\t10\t10\ndaily\t1\t10\t1000000000000\t1000\t1100\t2200\ntotal\t10\t1000000000000\t1000\t1100\t2200\nrefused\t5\t7\n")
     -- 5 past a second day
-    ∷ ("period\t2\t1\nmember\t1\t0\nmember\t2\t0\nday\t1\t2\nacct\t1\t0\tH\t10\t0\t0\t0\nacct\t2\t0\tH\t20\t0\t0\t0\nday\t2\t1\nacct\t1\t0\tH\t10\t0\t0\t0\nend\n" gives "day\t1\t30\t20\ndaily\t1\t10\t333333333334\t667\t733\t1467\ndaily\t2\t20\t666666666667\t1333\t1467\t2933\nrefused\t5\t9\n")
+    ∷ ("period\t2\t1\nmember\t1\t0\nmember\t2\t0\nday\t1\t2\nacct\t1\t0\tH\t10\t0\t0\t0\nacct\t2\t0\tH\t20\t0\t0\t0\nday\t2\t1\nacct\t1\t0\tH\t10\t0\t0\t0\nend\n" gives "day\t1\t30\t20\ndaily\t1\t10\t333333333334\t667\t733\t1467\ndaily\t2\t20\t666666666667\t1333\t1467\t2933\ntotal\t30\t1000000000001\t2000\t2200\t4400\nrefused\t5\t9\n")
     -- 6 on a second day
-    ∷ ("period\t1\t1\nmember\t1\t0\nday\t1\t1\nacct\t1\t0\tH\t10\t0\t0\t0\nday\t2\t2\nacct\t1\t0\tH\t10\t0\t0\t0\nacct\t1\t1\tU\t10\t1\t2\t0\nend\n" gives "day\t1\t10\t10\ndaily\t1\t10\t1000000000000\t1000\t1100\t2200\nrefused\t6\t7\n")
+    ∷ ("period\t1\t1\nmember\t1\t0\nday\t1\t1\nacct\t1\t0\tH\t10\t0\t0\t0\nday\t2\t2\nacct\t1\t0\tH\t10\t0\t0\t0\nacct\t1\t1\tU\t10\t1\t2\t0\nend\n" gives "day\t1\t10\t10\ndaily\t1\t10\t1000000000000\t1000\t1100\t2200\ntotal\t10\t1000000000000\t1000\t1100\t2200\nrefused\t6\t7\n")
     -- 7 on a second day
-    ∷ ("period\t1\t1\nmember\t1\t0\nday\t1\t1\nacct\t1\t0\tH\t10\t0\t0\t0\nday\t2\t1\nacct\t1\t0\tH\t0\t0\t0\t0\nend\n" gives "day\t1\t10\t10\ndaily\t1\t10\t1000000000000\t1000\t1100\t2200\nrefused\t7\t5\n")
+    ∷ ("period\t1\t1\nmember\t1\t0\nday\t1\t1\nacct\t1\t0\tH\t10\t0\t0\t0\nday\t2\t1\nacct\t1\t0\tH\t0\t0\t0\t0\nend\n" gives "day\t1\t10\t10\ndaily\t1\t10\t1000000000000\t1000\t1100\t2200\ntotal\t10\t1000000000000\t1000\t1100\t2200\nrefused\t7\t5\n")
     -- 9 on a second day
-    ∷ ("period\t1\t1\nmember\t1\t0\nday\t1\t1\nacct\t1\t0\tH\t10\t0\t0\t0\nday\t2\t2\nacct\t1\t0\tH\t10\t0\t0\t0\nacct\t1\tx\tU\t10\t0\t0\t0\nend\n" gives "day\t1\t10\t10\ndaily\t1\t10\t1000000000000\t1000\t1100\t2200\nrefused\t9\t7\n")
+    ∷ ("period\t1\t1\nmember\t1\t0\nday\t1\t1\nacct\t1\t0\tH\t10\t0\t0\t0\nday\t2\t2\nacct\t1\t0\tH\t10\t0\t0\t0\nacct\t1\tx\tU\t10\t0\t0\t0\nend\n" gives "day\t1\t10\t10\ndaily\t1\t10\t1000000000000\t1000\t1100\t2200\ntotal\t10\t1000000000000\t1000\t1100\t2200\nrefused\t9\t7\n")
     -- days that leave numbers out
-    ∷ ("period\t1\t1\nmember\t1\t0\nday\t1\t1\nacct\t1\t0\tH\t10\t0\t0\t0\nday\t9\t1\nacct\t1\t0\tH\t30\t0\t0\t0\nday\t31\t1\nacct\t1\t0\tH\t20\t0\t0\t0\nend\n" gives "day\t1\t10\t10\ndaily\t1\t10\t1000000000000\t1000\t1100\t2200\nday\t9\t30\t30\ndaily\t1\t30\t1000000000000\t3000\t3300\t6600\nday\t31\t20\t20\ndaily\t1\t20\t1000000000000\t2000\t2200\t4400\nfund\t3\t30\t50000000\ncontribution\t1\t33\t50000000\t100000000\n")
+    ∷ ("period\t1\t1\nmember\t1\t0\nday\t1\t1\nacct\t1\t0\tH\t10\t0\t0\t0\nday\t9\t1\nacct\t1\t0\tH\t30\t0\t0\t0\nday\t31\t1\nacct\t1\t0\tH\t20\t0\t0\t0\nend\n" gives "day\t1\t10\t10\ndaily\t1\t10\t1000000000000\t1000\t1100\t2200\ntotal\t10\t1000000000000\t1000\t1100\t2200\nday\t9\t30\t30\ndaily\t1\t30\t1000000000000\t3000\t3300\t6600\ntotal\t30\t1000000000000\t3000\t3300\t6600\nday\t31\t20\t20\ndaily\t1\t20\t1000000000000\t2000\t2200\t4400\ntotal\t20\t1000000000000\t2000\t2200\t4400\nfund\t3\t30\t50000000\ncontribution\t1\t33\t50000000\t100000000\n")
     -- groups of three and of two
-    ∷ ("period\t7\t3\nmember\t1\t17\nmember\t2\t1\nmember\t3\t17\nmember\t4\t0\nmember\t5\t1\nmember\t6\t17\nmember\t7\t0\nday\t1\t7\nacct\t1\t0\tH\t10\t0\t0\t10\t0\t10\nacct\t2\t0\tH\t8\t0\t0\t8\t0\t8\nacct\t3\t0\tH\t10\t0\t0\t10\t0\t10\nacct\t4\t0\tH\t25\t0\t0\t25\t0\t25\nacct\t5\t0\tH\t8\t0\t0\t8\t0\t8\nacct\t6\t0\tH\t10\t0\t0\t10\t0\t10\nacct\t7\t0\tH\t1\t0\t0\t1\t0\t1\nday\t2\t7\nacct\t1\t0\tH\t10\t0\t0\t10\t0\t10\nacct\t2\t0\tH\t20\t0\t0\t20\t0\t20\nacct\t3\t0\tH\t10\t0\t0\t10\t0\t10\nacct\t4\t0\tH\t25\t0\t0\t25\t0\t25\nacct\t5\t0\tH\t20\t0\t0\t20\t0\t20\nacct\t6\t0\tH\t10\t0\t0\t10\t0\t10\nacct\t7\t0\tH\t1\t0\t0\t1\t0\t1\nday\t3\t8\nacct\t1\t0\tH\t20\t0\t0\t20\t0\t20\nacct\t2\t0\tH\t10\t0\t0\t10\t0\t10\nacct\t3\t0\tH\t20\t0\t0\t20\t0\t20\nacct\t4\t0\tH\t25\t0\t0\t25\t0\t25\nacct\t5\t0\tH\t10\t0\t0\t10\t0\t10\nacct\t6\t0\tH\t0\t15\t0\t0\t0\t0\nacct\t6\t1\tR\t5\t0\t0\t5\t0\t5\nacct\t7\t0\tH\t1\t0\t0\t1\t0\t1\nend\n" gives "day\t1\t72\t30\ndaily\t1\t10\t138888888889\t417\t458\t917\ndaily\t2\t8\t111111111112\t333\t367\t733\ndaily\t3\t10\t138888888889\t417\t458\t917\ndaily\t4\t25\t347222222223\t1042\t1146\t2292\ndaily\t5\t8\t111111111112\t333\t367\t733\ndaily\t6\t10\t138888888889\t417\t458\t917\ndaily\t7\t1\t13888888889\t42\t46\t92\nday\t2\t96\t40\ndaily\t1\t10\t104166666667\t417\t458\t917\ndaily\t2\t20\t208333333334\t833\t917\t1833\ndaily\t3\t10\t104166666667\t417\t458\t917\ndaily\t4\t25\t260416666667\t1042\t1146\t2292\ndaily\t5\t20\t208333333334\t833\t917\t1833\ndaily\t6\t10\t104166666667\t417\t458\t917\ndaily\t7\t1\t10416666667\t42\t46\t92\nday\t3\t86\t30\ndaily\t1\t20\t232558139535\t698\t767\t1535\ndaily\t2\t10\t116279069768\t349\t384\t767\ndaily\t3\t20\t232558139535\t698\t767\t1535\ndaily\t4\t25\t290697674419\t872\t959\t1919\ndaily\t5\t10\t116279069768\t349\t384\t767\ndaily\t6\t0\t0\t0\t0\t0\ndaily\t7\t1\t11627906977\t35\t38\t77\nfund\t3\t40\t350000000\ncontribution\t1\t7\t50000000\t100000000\ncontribution\t2\t7\t50000000\t100000000\ncontribution\t3\t7\t50000000\t100000000\ncontribution\t4\t14\t50000000\t100000000\ncontribution\t5\t7\t50000000\t100000000\ncontribution\t6\t4\t50000000\t100000000\ncontribution\t7\t1\t50000000\t100000000\n")
+    ∷ ("period\t7\t3\nmember\t1\t17\nmember\t2\t1\nmember\t3\t17\nmember\t4\t0\nmember\t5\t1\nmember\t6\t17\nmember\t7\t0\nday\t1\t7\nacct\t1\t0\tH\t10\t0\t0\t10\t0\t10\nacct\t2\t0\tH\t8\t0\t0\t8\t0\t8\nacct\t3\t0\tH\t10\t0\t0\t10\t0\t10\nacct\t4\t0\tH\t25\t0\t0\t25\t0\t25\nacct\t5\t0\tH\t8\t0\t0\t8\t0\t8\nacct\t6\t0\tH\t10\t0\t0\t10\t0\t10\nacct\t7\t0\tH\t1\t0\t0\t1\t0\t1\nday\t2\t7\nacct\t1\t0\tH\t10\t0\t0\t10\t0\t10\nacct\t2\t0\tH\t20\t0\t0\t20\t0\t20\nacct\t3\t0\tH\t10\t0\t0\t10\t0\t10\nacct\t4\t0\tH\t25\t0\t0\t25\t0\t25\nacct\t5\t0\tH\t20\t0\t0\t20\t0\t20\nacct\t6\t0\tH\t10\t0\t0\t10\t0\t10\nacct\t7\t0\tH\t1\t0\t0\t1\t0\t1\nday\t3\t8\nacct\t1\t0\tH\t20\t0\t0\t20\t0\t20\nacct\t2\t0\tH\t10\t0\t0\t10\t0\t10\nacct\t3\t0\tH\t20\t0\t0\t20\t0\t20\nacct\t4\t0\tH\t25\t0\t0\t25\t0\t25\nacct\t5\t0\tH\t10\t0\t0\t10\t0\t10\nacct\t6\t0\tH\t0\t15\t0\t0\t0\t0\nacct\t6\t1\tR\t5\t0\t0\t5\t0\t5\nacct\t7\t0\tH\t1\t0\t0\t1\t0\t1\nend\n" gives "day\t1\t72\t30\ndaily\t1\t10\t138888888889\t417\t458\t917\ndaily\t2\t8\t111111111112\t333\t367\t733\ndaily\t3\t10\t138888888889\t417\t458\t917\ndaily\t4\t25\t347222222223\t1042\t1146\t2292\ndaily\t5\t8\t111111111112\t333\t367\t733\ndaily\t6\t10\t138888888889\t417\t458\t917\ndaily\t7\t1\t13888888889\t42\t46\t92\ntotal\t72\t1000000000003\t3001\t3300\t6601\nday\t2\t96\t40\ndaily\t1\t10\t104166666667\t417\t458\t917\ndaily\t2\t20\t208333333334\t833\t917\t1833\ndaily\t3\t10\t104166666667\t417\t458\t917\ndaily\t4\t25\t260416666667\t1042\t1146\t2292\ndaily\t5\t20\t208333333334\t833\t917\t1833\ndaily\t6\t10\t104166666667\t417\t458\t917\ndaily\t7\t1\t10416666667\t42\t46\t92\ntotal\t96\t1000000000003\t4001\t4400\t8801\nday\t3\t86\t30\ndaily\t1\t20\t232558139535\t698\t767\t1535\ndaily\t2\t10\t116279069768\t349\t384\t767\ndaily\t3\t20\t232558139535\t698\t767\t1535\ndaily\t4\t25\t290697674419\t872\t959\t1919\ndaily\t5\t10\t116279069768\t349\t384\t767\ndaily\t6\t0\t0\t0\t0\t0\ndaily\t7\t1\t11627906977\t35\t38\t77\ntotal\t86\t1000000000002\t3001\t3299\t6600\nfund\t3\t40\t350000000\ncontribution\t1\t7\t50000000\t100000000\ncontribution\t2\t7\t50000000\t100000000\ncontribution\t3\t7\t50000000\t100000000\ncontribution\t4\t14\t50000000\t100000000\ncontribution\t5\t7\t50000000\t100000000\ncontribution\t6\t4\t50000000\t100000000\ncontribution\t7\t1\t50000000\t100000000\n")
     -- a stress -0
     ∷ ("period\t2\t1\nmember\t1\t0\nmember\t2\t0\nday\t3\t2\nacct\t1\t0\tH\t390000000\t0\t0\t-0\nacct\t2\t0\tH\t10000000\t0\t0\t0\nend\n" gives "refused\t9\t5\n")
     -- a stress 01
@@ -429,19 +429,19 @@ texts =
     -- a kind of byte 255
     ∷ ("period\t1\t1\nmember\t1\t0\nday\t3\t2\nacct\t1\t0\tH\t10\t0\t0\t0\nacct\t1\t1\tÿ\t10\t0\t0\t0\nend\n" gives "refused\t9\t5\n")
     -- a group of all four members, clients of every kind
-    ∷ ("period\t4\t3\nmember\t1\t26\nmember\t2\t26\nmember\t3\t26\nmember\t4\t26\nday\t13\t14\nacct\t1\t0\tH\t-262899683022\t0\t0\t-668629069849\t567526038730\t-863218408590\nacct\t2\t0\tH\t-346605624023\t616466234476\t0\t501347962222\t-963071858498\t-653111635317\nacct\t2\t1\tR\t-432304380642\t188938951965\t0\t-857350163596\t144632401607\t-648863850673\nacct\t2\t2\tR\t-432304380642\t188938951965\t0\t-857350163596\t144632401607\t-648863850673\nacct\t2\t4\tR\t514477493977\t605846778877\t0\t-110576346448\t-278584670675\t-168457334601\nacct\t2\t5\tA\t645405390379\t789754674057\t578186029328\t1000000000000\t218111238757\t-144349283678\nacct\t2\t6\tR\t645405390379\t789754674057\t578186029328\t1000000000000\t218111238757\t-144349283678\nacct\t2\t7\tU\t-515256285254\t484743714748\t484743714748\t397475177865\t-1000000000000\t-1000000000000\nacct\t2\t8\tR\t165165596453\t658362864412\t0\t798964899690\t456741760665\t1000000000000\nacct\t2\t9\tR\t165165596453\t658362864412\t0\t798964899690\t456741760665\t1000000000000\nacct\t2\t10\tA\t476103379618\t718676592968\t0\t571407212819\t-242573213351\t80482904064\nacct\t2\t11\tU\t905277672245\t0\t0\t1000000000000\t279297138232\t1000000000000\nacct\t3\t0\tH\t79063012331\t847770741368\t0\t-701352662683\t136668072040\t-768707729034\nacct\t4\t0\tH\t992053526993\t271218593446\t0\t720834933547\t1000000000000\t861118431922\nend\n" gives "day\t13\t3752491681240\t2191145079813\ndaily\t1\t600318725568\t159978695908\t35053653241232\t38559018565355\t77118037130710\ndaily\t2\t3152172955672\t840021304093\t184060854740068\t202466940214075\t404933880428150\ndaily\t3\t0\t0\t0\t0\t0\ndaily\t4\t0\t0\t0\t0\t0\nfund\t1\t2191145079813\t2410359587798\ncontribution\t1\t385590185656\t385590185656\t771180371312\ncontribution\t2\t2024669402142\t2024669402142\t4049338804284\ncontribution\t3\t0\t50000000\t100000000\ncontribution\t4\t0\t50000000\t100000000\n")
+    ∷ ("period\t4\t3\nmember\t1\t26\nmember\t2\t26\nmember\t3\t26\nmember\t4\t26\nday\t13\t14\nacct\t1\t0\tH\t-262899683022\t0\t0\t-668629069849\t567526038730\t-863218408590\nacct\t2\t0\tH\t-346605624023\t616466234476\t0\t501347962222\t-963071858498\t-653111635317\nacct\t2\t1\tR\t-432304380642\t188938951965\t0\t-857350163596\t144632401607\t-648863850673\nacct\t2\t2\tR\t-432304380642\t188938951965\t0\t-857350163596\t144632401607\t-648863850673\nacct\t2\t4\tR\t514477493977\t605846778877\t0\t-110576346448\t-278584670675\t-168457334601\nacct\t2\t5\tA\t645405390379\t789754674057\t578186029328\t1000000000000\t218111238757\t-144349283678\nacct\t2\t6\tR\t645405390379\t789754674057\t578186029328\t1000000000000\t218111238757\t-144349283678\nacct\t2\t7\tU\t-515256285254\t484743714748\t484743714748\t397475177865\t-1000000000000\t-1000000000000\nacct\t2\t8\tR\t165165596453\t658362864412\t0\t798964899690\t456741760665\t1000000000000\nacct\t2\t9\tR\t165165596453\t658362864412\t0\t798964899690\t456741760665\t1000000000000\nacct\t2\t10\tA\t476103379618\t718676592968\t0\t571407212819\t-242573213351\t80482904064\nacct\t2\t11\tU\t905277672245\t0\t0\t1000000000000\t279297138232\t1000000000000\nacct\t3\t0\tH\t79063012331\t847770741368\t0\t-701352662683\t136668072040\t-768707729034\nacct\t4\t0\tH\t992053526993\t271218593446\t0\t720834933547\t1000000000000\t861118431922\nend\n" gives "day\t13\t3752491681240\t2191145079813\ndaily\t1\t600318725568\t159978695908\t35053653241232\t38559018565355\t77118037130710\ndaily\t2\t3152172955672\t840021304093\t184060854740068\t202466940214075\t404933880428150\ndaily\t3\t0\t0\t0\t0\t0\ndaily\t4\t0\t0\t0\t0\t0\ntotal\t3752491681240\t1000000000001\t219114507981300\t241025958779430\t482051917558860\nfund\t1\t2191145079813\t2410359587798\ncontribution\t1\t385590185656\t385590185656\t771180371312\ncontribution\t2\t2024669402142\t2024669402142\t4049338804284\ncontribution\t3\t0\t50000000\t100000000\ncontribution\t4\t0\t50000000\t100000000\n")
     -- three groups of one member each, clients of every kind
-    ∷ ("period\t3\t3\nmember\t1\t1\nmember\t2\t26\nmember\t3\t8\nday\t7\t12\nacct\t1\t0\tH\t-91027911\t0\t0\t-5485766507\t-980649862\t-91027910\nacct\t2\t0\tH\t182943247133\t986453991067\t254671763214\t182943247131\t-803510743935\t183106387534\nacct\t3\t0\tH\t9577856221\t1000000000000\t1000000000000\t-599061355854\t9647489845\t-990422143779\nacct\t3\t2\tR\t-51\t0\t0\t-851950650\t49459260\t-808376403\nacct\t3\t3\tR\t-913313674\t0\t0\t666621999409\t-709128570379\t-913313674\nacct\t3\t4\tR\t-913313674\t0\t0\t666621999409\t-709128570379\t-913313674\nacct\t3\t5\tU\t180737654437\t0\t0\t180737646860\t180737654949\t34077986732\nacct\t3\t6\tU\t-4676599394\t0\t0\t-3925448573\t-4814744214\t-1000000000000\nacct\t3\t7\tR\t-150645797\t13730162\t0\t-73858030\t-164375957\t-150125420\nacct\t3\t8\tA\t-766100964292\t0\t0\t-286797764838\t-1000000000000\t-765697723105\nacct\t3\t9\tR\t959433879\t1000000000000\t0\t-999040566121\t-25097760663\t959433888\nacct\t3\t10\tR\t-94240\t515266590227\t18577041007\t-515266684466\t-93946\t-94220\nend\n" gives "day\t7\t4052379119240\t2713378790643\ndaily\t1\t5394738596\t1331252195\t361219146993\t397341061693\t794682123385\ndaily\t2\t254671763215\t62844999375\t17052228840149\t18757451724164\t37514903448329\ndaily\t3\t3792312617429\t935823748431\t253924431077157\t279316874184873\t558633748369746\nfund\t1\t2713378790643\t2984716669712\ncontribution\t1\t3973410619\t3973410619\t7946821238\ncontribution\t2\t187574517243\t187574517243\t375149034486\ncontribution\t3\t2793168741850\t2793168741850\t5586337483700\n")
+    ∷ ("period\t3\t3\nmember\t1\t1\nmember\t2\t26\nmember\t3\t8\nday\t7\t12\nacct\t1\t0\tH\t-91027911\t0\t0\t-5485766507\t-980649862\t-91027910\nacct\t2\t0\tH\t182943247133\t986453991067\t254671763214\t182943247131\t-803510743935\t183106387534\nacct\t3\t0\tH\t9577856221\t1000000000000\t1000000000000\t-599061355854\t9647489845\t-990422143779\nacct\t3\t2\tR\t-51\t0\t0\t-851950650\t49459260\t-808376403\nacct\t3\t3\tR\t-913313674\t0\t0\t666621999409\t-709128570379\t-913313674\nacct\t3\t4\tR\t-913313674\t0\t0\t666621999409\t-709128570379\t-913313674\nacct\t3\t5\tU\t180737654437\t0\t0\t180737646860\t180737654949\t34077986732\nacct\t3\t6\tU\t-4676599394\t0\t0\t-3925448573\t-4814744214\t-1000000000000\nacct\t3\t7\tR\t-150645797\t13730162\t0\t-73858030\t-164375957\t-150125420\nacct\t3\t8\tA\t-766100964292\t0\t0\t-286797764838\t-1000000000000\t-765697723105\nacct\t3\t9\tR\t959433879\t1000000000000\t0\t-999040566121\t-25097760663\t959433888\nacct\t3\t10\tR\t-94240\t515266590227\t18577041007\t-515266684466\t-93946\t-94220\nend\n" gives "day\t7\t4052379119240\t2713378790643\ndaily\t1\t5394738596\t1331252195\t361219146993\t397341061693\t794682123385\ndaily\t2\t254671763215\t62844999375\t17052228840149\t18757451724164\t37514903448329\ndaily\t3\t3792312617429\t935823748431\t253924431077157\t279316874184873\t558633748369746\ntotal\t4052379119240\t1000000000001\t271337879064299\t298471666970730\t596943333941460\nfund\t1\t2713378790643\t2984716669712\ncontribution\t1\t3973410619\t3973410619\t7946821238\ncontribution\t2\t187574517243\t187574517243\t375149034486\ncontribution\t3\t2793168741850\t2793168741850\t5586337483700\n")
     -- one member, eight scenarios
-    ∷ ("period\t1\t8\nmember\t1\t16\nday\t27\t1\nacct\t1\t0\tH\t-3696\t4\t4\t-3697\t-3693\t-3690\t-347857106775\t-3697\t-6736\t-3698\t-137704463294\nend\n" gives "day\t27\t347857103079\t347857103079\ndaily\t1\t347857103079\t1000000000000\t34785710307900\t38264281338690\t76528562677380\nfund\t1\t347857103079\t382642813387\ncontribution\t1\t382642813387\t382642813387\t765285626774\n")
+    ∷ ("period\t1\t8\nmember\t1\t16\nday\t27\t1\nacct\t1\t0\tH\t-3696\t4\t4\t-3697\t-3693\t-3690\t-347857106775\t-3697\t-6736\t-3698\t-137704463294\nend\n" gives "day\t27\t347857103079\t347857103079\ndaily\t1\t347857103079\t1000000000000\t34785710307900\t38264281338690\t76528562677380\ntotal\t347857103079\t1000000000000\t34785710307900\t38264281338690\t76528562677380\nfund\t1\t347857103079\t382642813387\ncontribution\t1\t382642813387\t382642813387\t765285626774\n")
     -- two members that lose a dollar each, their shares rounded up
-    ∷ ("period\t3\t2\nmember\t1\t0\nmember\t2\t0\nmember\t3\t0\nday\t17\t7\nacct\t1\t0\tH\t-429819688079\t920325752744\t0\t276879373589\t-53050968671\nacct\t1\t1\tA\t330510334149\t667835026230\t421378311189\t171425628615\t-529496882722\nacct\t1\t3\tR\t-984170900066\t15829099935\t0\t-1000000000000\t-1000000000000\nacct\t2\t0\tH\t-51920521793\t866757264405\t0\t-918677786199\t-809520553084\nacct\t2\t3149\tR\t-177683625256\t0\t0\t194329398844\t-170390318670\nacct\t3\t0\tH\t-75848260336\t924151739663\t0\t-1000000000000\t168639031732\nacct\t3\t1\tR\t770964685646\t0\t0\t28981105392\t-77498434271\nend\n" gives "day\t17\t848463119920\t741983580255\ndaily\t1\t1\t2\t87\t96\t192\ndaily\t2\t1\t2\t87\t96\t192\ndaily\t3\t848463119918\t999999999998\t74198358025325\t81618193827858\t163236387655715\nfund\t1\t741983580255\t816281938279\ncontribution\t1\t2\t50000000\t100000000\ncontribution\t2\t2\t50000000\t100000000\ncontribution\t3\t816181938279\t816181938279\t1632363876558\n")
+    ∷ ("period\t3\t2\nmember\t1\t0\nmember\t2\t0\nmember\t3\t0\nday\t17\t7\nacct\t1\t0\tH\t-429819688079\t920325752744\t0\t276879373589\t-53050968671\nacct\t1\t1\tA\t330510334149\t667835026230\t421378311189\t171425628615\t-529496882722\nacct\t1\t3\tR\t-984170900066\t15829099935\t0\t-1000000000000\t-1000000000000\nacct\t2\t0\tH\t-51920521793\t866757264405\t0\t-918677786199\t-809520553084\nacct\t2\t3149\tR\t-177683625256\t0\t0\t194329398844\t-170390318670\nacct\t3\t0\tH\t-75848260336\t924151739663\t0\t-1000000000000\t168639031732\nacct\t3\t1\tR\t770964685646\t0\t0\t28981105392\t-77498434271\nend\n" gives "day\t17\t848463119920\t741983580255\ndaily\t1\t1\t2\t87\t96\t192\ndaily\t2\t1\t2\t87\t96\t192\ndaily\t3\t848463119918\t999999999998\t74198358025325\t81618193827858\t163236387655715\ntotal\t848463119920\t1000000000002\t74198358025499\t81618193828050\t163236387656099\nfund\t1\t741983580255\t816281938279\ncontribution\t1\t2\t50000000\t100000000\ncontribution\t2\t2\t50000000\t100000000\ncontribution\t3\t816181938279\t816181938279\t1632363876558\n")
     -- amounts at their limits, one member of a group of four loses
-    ∷ ("period\t4\t3\nmember\t1\t11\nmember\t2\t11\nmember\t3\t11\nmember\t4\t11\nday\t30\t5\nacct\t1\t0\tH\t999999999999\t999999999999\t999999999999\t0\t-1\t0\nacct\t2\t0\tH\t-1000000000000\t1\t0\t-1000000000000\t-1000000000000\t-1\nacct\t3\t0\tH\t-1\t999999999999\t0\t-1\t-1\t0\nacct\t4\t0\tH\t0\t999999999999\t0\t0\t999999999999\t0\nacct\t4\t15563\tA\t-1\t0\t0\t-1\t-1\t999999999998\nend\n" gives "day\t30\t1000000000000\t1000000000000\ndaily\t1\t1000000000000\t1000000000000\t100000000000000\t110000000000000\t220000000000000\ndaily\t2\t0\t0\t0\t0\t0\ndaily\t3\t0\t0\t0\t0\t0\ndaily\t4\t0\t0\t0\t0\t0\nfund\t1\t1000000000000\t1100150000000\ncontribution\t1\t1100000000000\t1100000000000\t2200000000000\ncontribution\t2\t0\t50000000\t100000000\ncontribution\t3\t0\t50000000\t100000000\ncontribution\t4\t0\t50000000\t100000000\n")
+    ∷ ("period\t4\t3\nmember\t1\t11\nmember\t2\t11\nmember\t3\t11\nmember\t4\t11\nday\t30\t5\nacct\t1\t0\tH\t999999999999\t999999999999\t999999999999\t0\t-1\t0\nacct\t2\t0\tH\t-1000000000000\t1\t0\t-1000000000000\t-1000000000000\t-1\nacct\t3\t0\tH\t-1\t999999999999\t0\t-1\t-1\t0\nacct\t4\t0\tH\t0\t999999999999\t0\t0\t999999999999\t0\nacct\t4\t15563\tA\t-1\t0\t0\t-1\t-1\t999999999998\nend\n" gives "day\t30\t1000000000000\t1000000000000\ndaily\t1\t1000000000000\t1000000000000\t100000000000000\t110000000000000\t220000000000000\ndaily\t2\t0\t0\t0\t0\t0\ndaily\t3\t0\t0\t0\t0\t0\ndaily\t4\t0\t0\t0\t0\t0\ntotal\t1000000000000\t1000000000000\t100000000000000\t110000000000000\t220000000000000\nfund\t1\t1000000000000\t1100150000000\ncontribution\t1\t1100000000000\t1100000000000\t2200000000000\ncontribution\t2\t0\t50000000\t100000000\ncontribution\t3\t0\t50000000\t100000000\ncontribution\t4\t0\t50000000\t100000000\n")
     -- amounts at their limits, a group of two among four members
-    ∷ ("period\t4\t2\nmember\t1\t30\nmember\t2\t5\nmember\t3\t12\nmember\t4\t30\nday\t11\t9\nacct\t1\t0\tH\t1000000000000\t1\t1\t1\t1000000000000\nacct\t1\t9194\tU\t0\t1\t1\t0\t0\nacct\t1\t10449\tU\t0\t0\t0\t0\t999999999999\nacct\t1\t27350\tA\t0\t0\t0\t-999999999999\t-999999999999\nacct\t1\t32255\tA\t0\t0\t0\t999999999999\t1\nacct\t1\t46913\tR\t1000000000000\t0\t0\t999999999999\t999999999999\nacct\t2\t0\tH\t0\t2\t0\t-1\t-1\nacct\t3\t0\tH\t1000000000000\t1\t0\t1000000000000\t1000000000000\nacct\t4\t0\tH\t-1\t0\t0\t-1\t-2\nend\n" gives "day\t11\t2499999999999\t2499999999998\ndaily\t1\t2499999999998\t1000000000000\t249999999999700\t274999999999670\t549999999999340\ndaily\t2\t0\t0\t0\t0\t0\ndaily\t3\t0\t0\t0\t0\t0\ndaily\t4\t1\t1\t100\t110\t220\nfund\t1\t2499999999998\t2750149999998\ncontribution\t1\t2749999999998\t2749999999998\t5499999999996\ncontribution\t2\t0\t50000000\t100000000\ncontribution\t3\t0\t50000000\t100000000\ncontribution\t4\t3\t50000000\t100000000\n")
+    ∷ ("period\t4\t2\nmember\t1\t30\nmember\t2\t5\nmember\t3\t12\nmember\t4\t30\nday\t11\t9\nacct\t1\t0\tH\t1000000000000\t1\t1\t1\t1000000000000\nacct\t1\t9194\tU\t0\t1\t1\t0\t0\nacct\t1\t10449\tU\t0\t0\t0\t0\t999999999999\nacct\t1\t27350\tA\t0\t0\t0\t-999999999999\t-999999999999\nacct\t1\t32255\tA\t0\t0\t0\t999999999999\t1\nacct\t1\t46913\tR\t1000000000000\t0\t0\t999999999999\t999999999999\nacct\t2\t0\tH\t0\t2\t0\t-1\t-1\nacct\t3\t0\tH\t1000000000000\t1\t0\t1000000000000\t1000000000000\nacct\t4\t0\tH\t-1\t0\t0\t-1\t-2\nend\n" gives "day\t11\t2499999999999\t2499999999998\ndaily\t1\t2499999999998\t1000000000000\t249999999999700\t274999999999670\t549999999999340\ndaily\t2\t0\t0\t0\t0\t0\ndaily\t3\t0\t0\t0\t0\t0\ndaily\t4\t1\t1\t100\t110\t220\ntotal\t2499999999999\t1000000000001\t249999999999800\t274999999999780\t549999999999560\nfund\t1\t2499999999998\t2750149999998\ncontribution\t1\t2749999999998\t2749999999998\t5499999999996\ncontribution\t2\t0\t50000000\t100000000\ncontribution\t3\t0\t50000000\t100000000\ncontribution\t4\t3\t50000000\t100000000\n")
     -- a day of small amounts and one of large, twelve clients of one member
-    ∷ ("period\t2\t1\nmember\t1\t0\nmember\t2\t0\nday\t6\t14\nacct\t1\t0\tH\t100\t513969\t0\t1703\nacct\t1\t1\tR\t0\t0\t0\t9336\nacct\t1\t2\tR\t6\t3\t3\t-1567\nacct\t1\t4\tR\t31\t0\t0\t-188\nacct\t1\t5\tR\t-93534\t7756\t0\t-94222\nacct\t1\t6\tU\t60137\t515\t0\t59622\nacct\t1\t7\tA\t-8534\t59\t0\t-8593\nacct\t1\t8\tR\t22\t0\t0\t-957083\nacct\t1\t9\tA\t22\t0\t0\t-957083\nacct\t1\t10\tU\t-46\t76355\t0\t-76401\nacct\t1\t11\tR\t-23730\t51902\t51902\t-75632\nacct\t1\t12\tR\t0\t0\t0\t10\nacct\t1\t13\tA\t-7421\t1557\t0\t-8979\nacct\t2\t0\tH\t0\t982\t190\t9356\nday\t14\t13\nacct\t1\t0\tH\t953254430163\t0\t0\t1000000000000\nacct\t1\t1\tR\t418510812807\t749350838531\t749350838531\t196659524676\nacct\t1\t2\tR\t947064566301\t85405521710\t12238610127\t861659044590\nacct\t1\t3\tR\t373509261788\t974962331456\t0\t-601453069668\nacct\t1\t5\tU\t319774531444\t3\t0\t1000000000000\nacct\t2\t0\tH\t822961047001\t0\t0\t837148318357\nacct\t2\t1\tA\t708269794456\t0\t0\t1000000000000\nacct\t2\t3\tR\t-13375383878\t226672834982\t159037531670\t-240048218861\nacct\t2\t4\tR\t-13375383878\t226672834982\t159037531670\t-240048218861\nacct\t2\t5\tA\t663738635235\t914481008604\t518146117068\t-250742373370\nacct\t2\t6\tR\t-731694166136\t977905555724\t620800860695\t-742324093881\nacct\t2\t7\tR\t-116995082496\t842373208735\t842373208735\t-959368291232\nacct\t2\t8\tU\t538381967980\t0\t0\t-331902167388\nend\n" gives "day\t6\t1452144\t1452144\ndaily\t1\t1452144\t1000000000000\t145214400\t159735840\t319471680\ndaily\t2\t0\t0\t0\t0\t0\nday\t14\t2896959412954\t2662869514695\ndaily\t1\t234089898259\t80805377256\t21517417571837\t23669159329021\t47338318658041\ndaily\t2\t2662869514695\t919194622745\t244769533897663\t269246487287429\t538492974574859\nfund\t2\t2662869514695\t2929156466167\ncontribution\t1\t1582924029728\t1582924029728\t3165848059456\ncontribution\t2\t1346232436439\t1346232436439\t2692464872878\n")
+    ∷ ("period\t2\t1\nmember\t1\t0\nmember\t2\t0\nday\t6\t14\nacct\t1\t0\tH\t100\t513969\t0\t1703\nacct\t1\t1\tR\t0\t0\t0\t9336\nacct\t1\t2\tR\t6\t3\t3\t-1567\nacct\t1\t4\tR\t31\t0\t0\t-188\nacct\t1\t5\tR\t-93534\t7756\t0\t-94222\nacct\t1\t6\tU\t60137\t515\t0\t59622\nacct\t1\t7\tA\t-8534\t59\t0\t-8593\nacct\t1\t8\tR\t22\t0\t0\t-957083\nacct\t1\t9\tA\t22\t0\t0\t-957083\nacct\t1\t10\tU\t-46\t76355\t0\t-76401\nacct\t1\t11\tR\t-23730\t51902\t51902\t-75632\nacct\t1\t12\tR\t0\t0\t0\t10\nacct\t1\t13\tA\t-7421\t1557\t0\t-8979\nacct\t2\t0\tH\t0\t982\t190\t9356\nday\t14\t13\nacct\t1\t0\tH\t953254430163\t0\t0\t1000000000000\nacct\t1\t1\tR\t418510812807\t749350838531\t749350838531\t196659524676\nacct\t1\t2\tR\t947064566301\t85405521710\t12238610127\t861659044590\nacct\t1\t3\tR\t373509261788\t974962331456\t0\t-601453069668\nacct\t1\t5\tU\t319774531444\t3\t0\t1000000000000\nacct\t2\t0\tH\t822961047001\t0\t0\t837148318357\nacct\t2\t1\tA\t708269794456\t0\t0\t1000000000000\nacct\t2\t3\tR\t-13375383878\t226672834982\t159037531670\t-240048218861\nacct\t2\t4\tR\t-13375383878\t226672834982\t159037531670\t-240048218861\nacct\t2\t5\tA\t663738635235\t914481008604\t518146117068\t-250742373370\nacct\t2\t6\tR\t-731694166136\t977905555724\t620800860695\t-742324093881\nacct\t2\t7\tR\t-116995082496\t842373208735\t842373208735\t-959368291232\nacct\t2\t8\tU\t538381967980\t0\t0\t-331902167388\nend\n" gives "day\t6\t1452144\t1452144\ndaily\t1\t1452144\t1000000000000\t145214400\t159735840\t319471680\ndaily\t2\t0\t0\t0\t0\t0\ntotal\t1452144\t1000000000000\t145214400\t159735840\t319471680\nday\t14\t2896959412954\t2662869514695\ndaily\t1\t234089898259\t80805377256\t21517417571837\t23669159329021\t47338318658041\ndaily\t2\t2662869514695\t919194622745\t244769533897663\t269246487287429\t538492974574859\ntotal\t2896959412954\t1000000000001\t266286951469500\t292915646616450\t585831293232900\nfund\t2\t2662869514695\t2929156466167\ncontribution\t1\t1582924029728\t1582924029728\t3165848059456\ncontribution\t2\t1346232436439\t1346232436439\t2692464872878\n")
     ∷ []
 
 -- Up to here it is written.

@@ -1,4 +1,5 @@
--- Document 01, "The month's text": for any bytes, the bytes of the report. What is read makes calls, and the register answers them.
+-- Document 01, "The month's text": for any bytes, the bytes of the report. What is read makes calls, and the register answers them. With
+-- document 02's Change 1, a total under each day.
 use mathlib.Core.Bool.{Bool, true, false, not, _&&_, _||_, cond}
 use mathlib.Core.List.{List, [], _∷_, _++_, flatMap}
 use mathlib.Core.Option.{Option, none, some}
@@ -9,6 +10,7 @@ use lib.Dec.{ltb, eqb}
 use lib.IntN.{ℤ, pos, negℤ}
 use lib.ListN.{length, getD, take, drop}
 use Rattle.numbers.specs.Lists.{any}
+use Rattle.numbers.specs.Sums.{Σ}
 use Rattle.methodology.specs.declared.Refusal.{Refusal}
 use Rattle.methodology.specs.declared.Refusal.the-variants.{Clear, Row, RowAt}
 use Rattle.methodology.specs.declared.Opening.{Opening}
@@ -149,19 +151,31 @@ printed word numbers = word ++ flatMap (λ x. tab ∷ decimal x) numbers ++ (LF 
 abbrev pub refusedLine : (number line : ℕ) → List ℕ
 refusedLine number line = printed (bytes "refused") (number ∷ line ∷ [])
 
--- a line for each member with its numbers, `width` of them in its stretch of what a call wrote
-unfoldable pub rows : (word : List ℕ) → (width n : ℕ) → (out : List ℕ) → List ℕ
-rows word width n out = flatMap (λ m. printed word (m ∷ take width (drop (width * (m - 1)) out))) (members n)
+-- member m's numbers, `width` of them in its stretch of what a call wrote
+abbrev pub stretch : (width m : ℕ) → (out : List ℕ) → List ℕ
+stretch width m out = take width (drop (width * (m - 1)) out)
 
--- an accepted day: "day number, T, Max EUL; member and its five numbers"
-unfoldable pub dayLines : (after : Register) → DayInput → (room : ℕ) → List ℕ
-dayLines g d room =
-    printed (bytes "day") (d .terms .number ∷ returned g (Call.day d room)) ++ rows (bytes "daily") 5 (g .held .n) (written g (Call.day d room))
+-- a line for each member with its numbers
+unfoldable pub rows : (word : List ℕ) → (width n : ℕ) → (out : List ℕ) → List ℕ
+rows word width n out = flatMap (λ m. printed word (m ∷ stretch width m out)) (members n)
+
+-- the sum of column c of what a call wrote, which is the number at index c of each member's
+unfoldable pub columnSum : (width n : ℕ) → (out : List ℕ) → (c : ℕ) → ℕ
+columnSum width n out c = Σ (members n) (λ m. getD (stretch width m out) c 0)
+
+-- Document 02, Change 1: "the sums of e, share, value, reserve and estimate over that day's members", in this order in what a day wrote
+unfoldable pub totals : (n : ℕ) → (out : List ℕ) → List ℕ
+totals n out = columnSum 5 n out 0 ∷ columnSum 5 n out 1 ∷ columnSum 5 n out 2 ∷ columnSum 5 n out 3 ∷ columnSum 5 n out 4 ∷ []
+
+-- an accepted day: "day number, T, Max EUL; member and its five numbers"; by Change 1, "After a day's daily lines the report prints `total`,
+-- then the sums"
+unfoldable pub dayLines : (number n : ℕ) → (returned written : List ℕ) → List ℕ
+dayLines number n figures out =
+    printed (bytes "day") (number ∷ figures) ++ rows (bytes "daily") 5 n out ++ printed (bytes "total") (totals n out)
 
 -- an accepted closing: "D, M, total funded; member and its three numbers"
-unfoldable pub fundLines : (after : Register) → (room : ℕ) → List ℕ
-fundLines g room =
-    printed (bytes "fund") (returned g (Call.closing room)) ++ rows (bytes "contribution") 3 (g .held .n) (written g (Call.closing room))
+unfoldable pub fundLines : (n : ℕ) → (returned written : List ℕ) → List ℕ
+fundLines n figures out = printed (bytes "fund") figures ++ rows (bytes "contribution") 3 n out
 
 -- ---- reading
 
@@ -220,8 +234,9 @@ readDay g i (some ns) =
 -- "the day line for 3, 4 and 7, the account's (or next) line for 5 and 6"
 unfoldable pub sized : Refusal → Register → DayInput → (line : ℕ) → Read
 sized Clear g d i =
-    let room = 5 * g .held .n in
-    goesOn (dayLines (step g (Call.day d room)) d room) (day (step g (Call.day d room)))
+    let call = Call.day d (5 * g .held .n) in
+    let after = step g call in
+    goesOn (dayLines (d .terms .number) (after .held .n) (returned after call) (written after call)) (day after)
 sized (Row number) g d i = ends (refusedLine number i)
 sized (RowAt number index) g d i = ends (refusedLine number (i + 1 + index))
 
@@ -256,7 +271,10 @@ readLine (afterEnd g at) i l = bad i
 
 -- "the end line for 8"
 unfoldable pub closed : Refusal → Register → (line : ℕ) → List ℕ
-closed Clear g i = let room = 3 * g .held .n in fundLines (step g (Call.closing room)) room
+closed Clear g i =
+    let call = Call.closing (3 * g .held .n) in
+    let after = step g call in
+    fundLines (after .held .n) (returned after call) (written after call)
 closed (Row number) g i = refusedLine number i
 closed (RowAt number index) g i = refusedLine number i
 

@@ -320,11 +320,29 @@ pub mem-every : {A : Type 0} (P : A → Type 0) (xs : List A) → ((x : A) → x
 mem-every P [] f = tt
 mem-every P (x ∷ xs) f = (f x (here refl), mem-every P xs (λ y i. f y (there i)))
 
+-- an element at an index, the first ones, and those after them
+pub every-at : {A : Type 0} (P : A → Type 0) (xs : List A) (d : A) → P d → Every P xs → (i : ℕ) → P (getD xs i d)
+every-at P xs d p h = at-any P xs d p (λ i l. every-mem P xs h (getD xs i d) (mem-at xs d l))
+
+pub every-take : {A : Type 0} (P : A → Type 0) (n : ℕ) (xs : List A) → Every P xs → Every P (take n xs)
+every-take P zero xs h = tt
+every-take P (suc n) [] h = tt
+every-take P (suc n) (x ∷ xs) h = (h .0, every-take P n xs (h .1))
+
+pub every-drop : {A : Type 0} (P : A → Type 0) (n : ℕ) (xs : List A) → Every P xs → Every P (drop n xs)
+every-drop P zero xs h = h
+every-drop P (suc n) [] h = tt
+every-drop P (suc n) (x ∷ xs) h = every-drop P n xs (h .1)
+
 pub every-map : {A B : Type 0} (P : B → Type 0) (f : A → B) (xs : List A) → ((x : A) → x ∈ xs → P (f x)) → Every P (map f xs)
 every-map P f [] h = tt
 every-map P f (x ∷ xs) h = (h x (here refl), every-map P f xs (λ y i. h y (there i)))
 
-every-append : {A : Type 0} (P : A → Type 0) (xs ys : List A) → Every P xs → Every P ys → Every P (xs ++ ys)
+pub every-weaken : {A : Type 0} (P Q : A → Type 0) → ((x : A) → P x → Q x) → (xs : List A) → Every P xs → Every Q xs
+every-weaken P Q f [] h = tt
+every-weaken P Q f (x ∷ xs) h = (f x (h .0), every-weaken P Q f xs (h .1))
+
+pub every-append : {A : Type 0} (P : A → Type 0) (xs ys : List A) → Every P xs → Every P ys → Every P (xs ++ ys)
 every-append P [] ys h k = k
 every-append P (x ∷ xs) ys h k = (h .0, every-append P xs ys (h .1) k)
 

@@ -10,7 +10,7 @@ use lib.IntN.{ℤ}
 use lib.ListN.{length, getD, take}
 use lib.Seq.{getD-take}
 use borrow.Author.Tests.{ltb-true, lt-ltb, eqb-true, eqb-false, not-false}
-use Rattle.numbers.specs.Lists.{range}
+use Rattle.numbers.specs.Lists.{range, Every}
 use Rattle.numbers.proofs.Lists.{_∈_, by-index, first-before, map-eq, range-mem}
 use Rattle.methodology.specs.declared.DayTerms.{DayTerms}
 use Rattle.methodology.specs.declared.Refusal.the-variants.{Clear}
@@ -30,12 +30,12 @@ use Rattle.exposure.specs.declared.day.Figures.{Figures}
 use Rattle.exposure.specs.MemberCut.{Owners}
 use Rattle.exposure.specs.DayFigures.{Sizable, Grouped, FiguresAre}
 use Rattle.exposure.proofs.Bounds.{total-small}
-use Rattle.exposure.proofs.MaxTotal.{loss-le-total}
+use Rattle.exposure.proofs.MaxTotal.{loss-le-total, max-le-total}
 use Rattle.exposure.proofs.Members.{owners}
 use Rattle.exposure.proofs.Admitted.{admitted, groups-few}
 use Rattle.exposure.proofs.Found as found
 use Rattle.fund.specs.Shares.{shareIn}
-use Rattle.fund.proofs.Dailies.{are-dailies, share-written}
+use Rattle.fund.proofs.Dailies.{Few, are-dailies, dailies-few, share-written}
 use Rattle.period.specs.declared.Period.{Period}
 use Rattle.period.specs.Calls.{heldBy, statusOf, accountsBrought, dayRow, shareAt, withAccrued, sizedPeriod}
 use Rattle.period.specs.Inner.{earlyRow, withDay}
@@ -92,6 +92,13 @@ module _ {p : Period} {d : DayInput} {room : ℕ} (s : Admits p d room) where
   pub total-few : total (heldBy p) (accountsBrought p d) ≤ greatestTotal
   total-few =
       omega (arith, total-small (accountsBrought p d) good-amount (omega (arith, accounts-long (p .held .k) d, sized (heldBy p) d (s .rows .input) .few)) (heldBy p))
+
+  -- nor is a number that it writes too large
+  pub written-few : 0 < total (heldBy p) (accountsBrought p d) → Every Few (dailies (heldBy p) (accountsBrought p d))
+  written-few positive =
+      dailies-few (heldBy p) (accountsBrought p d)
+      (λ m i. record { positive = positive; part = loss-le-total (heldBy p) (accountsBrought p d) i; bounded = total-few })
+      (omega (arith, max-le-total (heldBy p) (accountsBrought p d), total-few))
 
 -- a share of the whole is at most 10^12
 module _ (p : Period) (d : DayInput) (positive : 0 < total (heldBy p) (accountsBrought p d)) where

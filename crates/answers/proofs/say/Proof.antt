@@ -1,12 +1,26 @@
 -- `say` meets its contract: each case prints what the definition has.
+use mathlib.Core.Path.{subst}
 use Prim.Native.Nat.{_+_, _*_, _≤_, _<_, _^_}
 use lib.ListN.{length}
-use Rattle.methodology.specs.Text.{bytes}
+use Rattle.numbers.specs.Lists.{Every}
+use Rattle.methodology.specs.Text.{bytes, dayLines, fundLines}
 use Rattle.report.proofs.Laws.{put-then}
-use Rattle.answers.specs.Said.{widthSaid, lineSaid, said}
+use Rattle.period.specs.declared.Outcome.{Outcome}
+use Rattle.answers.specs.Said.{widthSaid, sumsSaid, lineSaid, said}
 use borrow.Author.Needs.{needs}
 use Rattle.answers.proofs.say.Statement.{statement}
 use Rattle.answers.proofs.say.Tie as tie
+
+-- on an accepted day: where its daily lines are put, where its day line is, where it is told, and the start
+module _ (c : tie.After-put-rows) where
+  abbrev headed : tie.After-put-line
+  headed = c .before .before .before .before .before
+
+  abbrev told : tie.After-outcome
+  told = headed .before .before .before .before .before
+
+  abbrev start : tie.Start
+  start = told .before .before .before .before
 
 enum-told : tie.Need-enum-told
 enum-told c = search needs
@@ -39,8 +53,17 @@ put-rows-requires c κs =
     let room : 5 * s .args .n ≤ length (s .args .figures .now) = rw (c .before .before .before .before .before .before .before .before .before .outcome .given .1) at (s .pre .0 .1) in
     search needs
 
-enum-known-outcome-2 : tie.Need-enum-known-outcome-2
-enum-known-outcome-2 c = search needs
+totals-requires : tie.Need-totals-requires
+unfolding widthSaid sumsSaid
+totals-requires c κs =
+    let lined = c .before .before in
+    let s = start lined in
+    let a = s .args in
+    let is = told lined .outcome .given .1 in
+    (
+      subst (λ (o : Outcome). widthSaid o * a .n ≤ length (a .figures .now)) is (s .pre .0 .1),
+      subst (λ (o : Outcome). Every (λ x. x < 2 ^ 64) (sumsSaid o (a .n) (a .figures .now))) is (s .pre .1 .0),
+    )
 
 slice-aggregate-put-line-3 : tie.Need-slice-aggregate-put-line-3
 slice-aggregate-put-line-3 c = search needs
@@ -50,6 +73,18 @@ slice-aggregate-put-line-4 c = search needs
 
 put-line-requires-2 : tie.Need-put-line-requires-2
 put-line-requires-2 c κs = search needs
+
+enum-known-outcome-2 : tie.Need-enum-known-outcome-2
+enum-known-outcome-2 c = search needs
+
+slice-aggregate-put-line-5 : tie.Need-slice-aggregate-put-line-5
+slice-aggregate-put-line-5 c = search needs
+
+slice-aggregate-put-line-6 : tie.Need-slice-aggregate-put-line-6
+slice-aggregate-put-line-6 c = search needs
+
+put-line-requires-3 : tie.Need-put-line-requires-3
+put-line-requires-3 c κs = search needs
 
 slice-aggregate-put-rows-2 : tie.Need-slice-aggregate-put-rows-2
 slice-aggregate-put-rows-2 c = search needs
@@ -74,14 +109,14 @@ add-put-refused : tie.Need-add-put-refused
 unfolding lineSaid
 add-put-refused c =
     let s = c .before .before .before .before .before .before in
-    let h : s .args .line + 1 + c .before .before .outcome4 .given .0 .1 .0 < 2 ^ 64 = rw (c .before .before .outcome4 .given .1) at (s .pre .1) in
+    let h : s .args .line + 1 + c .before .before .outcome4 .given .0 .1 .0 < 2 ^ 64 = rw (c .before .before .outcome4 .given .1) at (s .pre .1 .1) in
     search needs
 
 add-put-refused-2 : tie.Need-add-put-refused-2
 unfolding lineSaid
 add-put-refused-2 c =
     let s = c .before .before .before .before .before .before in
-    let h : s .args .line + 1 + c .before .before .outcome4 .given .0 .1 .0 < 2 ^ 64 = rw (c .before .before .outcome4 .given .1) at (s .pre .1) in
+    let h : s .args .line + 1 + c .before .before .outcome4 .given .0 .1 .0 < 2 ^ 64 = rw (c .before .before .outcome4 .given .1) at (s .pre .1 .1) in
     search needs
 
 put-refused-requires-2 : tie.Need-put-refused-requires-2
@@ -98,15 +133,19 @@ same-length-2 : tie.Need-same-length-2
 same-length-2 c = search needs
 
 returns-2 : tie.Need-returns-2
-unfolding said bytes
-returns-2 c = rw (c .before .before .before .before .before .before .before .before .before .before .before .before .outcome .given .1) (put-then (c .before .before .before .before .before .before .before .put-line .ensures) (c .before .before .put-rows .ensures))
+unfolding said dayLines bytes
+returns-2 c =
+    let under = c .before .before in
+    let summed = under .before .before .before .before in
+    let lined = summed .before .before .before in
+    rw (told lined .outcome .given .1) (put-then (put-then (headed lined .put-line .ensures) (lined .put-rows .ensures)) (rw (summed .totals .ensures) at (under .put-line2 .ensures)))
 
 same-length-3 : tie.Need-same-length-3
 same-length-3 c = search needs
 
 returns-3 : tie.Need-returns-3
-unfolding said bytes
-returns-3 c = rw (c .before .before .before .before .before .before .before .before .before .before .before .before .outcome2 .given .1) (put-then (c .before .before .before .before .before .before .before .put-line2 .ensures) (c .before .before .put-rows2 .ensures))
+unfolding said fundLines bytes
+returns-3 c = rw (c .before .before .before .before .before .before .before .before .before .before .before .before .outcome2 .given .1) (put-then (c .before .before .before .before .before .before .before .put-line3 .ensures) (c .before .before .put-rows2 .ensures))
 
 same-length-4 : tie.Need-same-length-4
 same-length-4 c = search needs
@@ -135,10 +174,14 @@ say-spec =
     put-line-requires
     slice-aggregate-put-rows
     put-rows-requires
-    enum-known-outcome-2
+    totals-requires
     slice-aggregate-put-line-3
     slice-aggregate-put-line-4
     put-line-requires-2
+    enum-known-outcome-2
+    slice-aggregate-put-line-5
+    slice-aggregate-put-line-6
+    put-line-requires-3
     slice-aggregate-put-rows-2
     put-rows-requires-2
     enum-known-outcome-3

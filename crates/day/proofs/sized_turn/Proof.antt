@@ -1,13 +1,14 @@
 -- `sized_turn` meets its contract: what the day call says is what the report has of it.
 use mathlib.Core.Path.{_≡_, refl, sym, subst, _∙_}
 use mathlib.Core.List.{List}
-use Prim.Native.Nat.{ℕ, _*_}
+use Prim.Native.Nat.{ℕ, _*_, _^_, _≤_, _<_}
 use native.Mathlib.Omega.{arith}
 use lib.ListN.{length}
 use lib.Seq.{length-take-le, take-at}
+use Rattle.numbers.specs.Lists.{Every}
 use Rattle.report.specs.Put.{Put}
-use Rattle.answers.specs.Said.{said}
-use Rattle.answers.proofs.Outcomes.{OfDay, day-line, day-width}
+use Rattle.answers.specs.Said.{said, sumsSaid}
+use Rattle.answers.proofs.Outcomes.{OfDay, day-line, day-width, day-sums}
 use Rattle.day.proofs.Steps.{read-outcome, figures-fit, figures-cut, figures-wide, said-turn}
 use borrow.Author.Needs.{needs}
 use Rattle.day.proofs.sized_turn.Statement.{statement}
@@ -55,7 +56,9 @@ say-requires c κs =
     let s = start a in
     let wide = day-width (s .args .count) (n a) (outcome a) in
     let named = day-line (s .args .count) (s .args .from .line) (outcome a) in
-    ((s .pre .0 .1, figures-wide (figures a) _ _ (long a) _ wide), omega (arith, s .pre .0, named))
+    let few : n a ≤ 32 = s .pre .0 .1 in
+    let sums = subst (λ (l : List ℕ). Every (λ x. x < 2 ^ 64) (sumsSaid (a .size-day .result .outcome) (n a) l)) (sym (take-at (figures a) _ _ (long a))) (day-sums (a .size-day .ensures) (n a) few) in
+    ((few, figures-wide (figures a) _ _ (long a) _ wide), (sums, omega (arith, s .pre .0, named)))
 
 add-t23 : tie.Need-add-t23
 add-t23 c = search needs

@@ -1,6 +1,6 @@
 -- `close` meets its contract: what the closing call says is printed as the report has it.
 use native.Mathlib.Omega.{arith}
-use Rattle.answers.proofs.Outcomes.{closing-outcome, closing-line, closing-width}
+use Rattle.answers.proofs.Outcomes.{closing-outcome, closing-line, closing-width, closing-sums}
 use Rattle.answers.proofs.CallsSaid.{closing-said}
 use borrow.Author.Needs.{needs}
 use Rattle.month.proofs.days.close.Statement.{statement}
@@ -14,7 +14,7 @@ say-requires c κs =
     let called = c .before .before .before .before .closing in
     let s = c .before .before .before .before .before .before .before .before .before in
     let o = closing-outcome (called .ensures) in
-    ((s .pre .0, omega (arith, called .kept, s .pre .1, closing-width (s .args .n) o)), omega (arith, closing-line (s .args .from .line) o))
+    ((s .pre .0, omega (arith, called .kept, s .pre .1, closing-width (s .args .n) o)), (closing-sums (s .args .n) _ o, omega (arith, closing-line (s .args .from .line) o)))
 
 same-length : tie.Need-same-length
 same-length c = search needs

@@ -10,7 +10,7 @@ use Rattle.methodology.specs.declared.Opening.{Opening}
 use Rattle.methodology.specs.Account.{withGroups}
 use Rattle.period.specs.Calls.{freshPeriod, OpeningMeets}
 use Rattle.answers.specs.Said.{widthSaid}
-use Rattle.answers.proofs.Outcomes.{opening-outcome, opening-line}
+use Rattle.answers.proofs.Outcomes.{opening-outcome, opening-line, opening-sums}
 use Rattle.day.proofs.Steps.{same-put}
 use Rattle.month.specs.MemberLines.{membersDue, openingDue}
 use Rattle.month.proofs.Openings.{members-stopped, members-read, from-fresh, opening-ends, opening-goes-on}
@@ -104,7 +104,7 @@ say-requires : tie.Need-say-requires
 say-requires c κs =
     let called = c .before .before .before .opening in
     let o = opening-outcome (called .ensures) in
-    ((omega arith, omega (arith, mul-zero (widthSaid (called .result .outcome)))), omega (arith, opening-line 1 o))
+    ((omega arith, omega (arith, mul-zero (widthSaid (called .result .outcome)))), (opening-sums 0 _ o, omega (arith, opening-line 1 o)))
 
 is-over-requires : tie.Need-is-over-requires
 is-over-requires c κs = search needs

@@ -1,0 +1,76 @@
+-- What a call's answer prints, as it is read back: an accepted day's lines add up, and a closing's lines and a refusal's are no day's.
+use mathlib.Core.Path.{_≡_, refl, sym, ap, subst, _∙_}
+use mathlib.Core.List.{List, [], _∷_, _++_, map, map-map, map-id}
+use Prim.Native.Nat.{ℕ, suc, _+_, _-_, _*_, _≤_, _<_}
+use native.Mathlib.Omega.{arith}
+use lib.ListN.{length, getD}
+use Rattle.numbers.specs.Lists.{range, any, Every}
+use Rattle.numbers.specs.Sums.{Σ}
+use Rattle.numbers.proofs.Lists.{_∈_, mem-range, map-eq, part-length, every-map, every-take, every-drop}
+use Rattle.numbers.proofs.Sums.{Σ-map}
+use Rattle.methodology.specs.Account.{members}
+use Rattle.methodology.specs.Text.{bytes, same, stretch, refusedLine, rows, columnSum, totals, dayLines, fundLines}
+use Rattle.demand3.specs.Demand3.{Fits64}
+use Rattle.as_printed.specs.AsPrinted.{Line, worded, DayRead, dayRead, AddsUp, Other}
+use Rattle.as_printed.proofs.PrintedLines.{Word, Shows, shows-line, shows-then, shows-each}
+
+-- member m's line has its number before its stretch
+abbrev ofMember : (width : ℕ) (out : List ℕ) (m : ℕ) → List ℕ
+ofMember width out m = m ∷ stretch width m out
+
+shows-rows : (word : List ℕ) (width n : ℕ) (out : List ℕ) → Word word → n ≤ 32 → Every Fits64 out
+    → Shows (rows word width n out) (map (λ m. worded word (ofMember width out m)) (members n))
+unfolding rows
+shows-rows word width n out w few fit =
+    shows-each word (ofMember width out) (members n) w
+    (λ m i. (omega (arith, mem-range 1 n i .1), every-take Fits64 width _ (every-drop Fits64 (width * (m - 1)) out fit)))
+
+-- ---- an accepted day
+
+module _ (number n T Max : ℕ) (out : List ℕ) where
+  abbrev asRead : DayRead
+  asRead = record { number = number; total = T; max = Max; records = map (ofMember 5 out) (members n); sums = totals n out }
+
+  pub day-shows : Every Fits64 (number ∷ T ∷ Max ∷ []) → Every Fits64 out → Every Fits64 (totals n out) → n ≤ 32 → Shows (dayLines number n (T ∷ Max ∷ []) out) (dayRead asRead)
+  unfolding dayLines bytes any
+  day-shows head fit sums few =
+      let lines = sym (map-map (worded (bytes "daily")) (ofMember 5 out) (members n)) in
+      let records = subst (Shows (rows (bytes "daily") 5 n out)) lines (shows-rows (bytes "daily") 5 n out (refl, refl) few fit) in
+      shows-then (shows-then (shows-line (bytes "day") (number ∷ T ∷ Max ∷ []) (refl, refl) head) records) (shows-line (bytes "total") (totals n out) (refl, refl) sums)
+
+  column-read : (c : ℕ) → columnSum 5 n out c ≡ Σ (map (ofMember 5 out) (members n)) (λ numbers. getD numbers (suc c) 0)
+  unfolding columnSum
+  column-read c = sym (Σ-map (ofMember 5 out) (members n) (λ numbers. getD numbers (suc c) 0))
+
+  pub day-adds-up : length out ≡ 5 * n → getD (totals n out) 0 0 ≡ T → AddsUp n asRead
+  unfolding totals range
+  day-adds-up long first =
+      record {
+        of-members = map-map _ (ofMember 5 out) (members n) ∙ map-id (members n);
+        wide = every-map _ (ofMember 5 out) (members n) (λ m i. let (low, high) = mem-range 1 n i in ap suc (part-length (5 * (m - 1)) 5 out (omega arith)));
+        sums-are = rw (column-read 0, column-read 1, column-read 2, column-read 3, column-read 4);
+        first-is = first;
+      }
+
+-- ---- what ends a report
+
+abbrev fundRead : (n : ℕ) (figures out : List ℕ) → List Line
+fundRead n figures out = (worded (bytes "fund") figures ∷ []) ++ map (λ m. worded (bytes "contribution") (ofMember 3 out m)) (members n)
+
+pub fund-shows : (n : ℕ) (figures out : List ℕ) → Every Fits64 figures → Every Fits64 out → n ≤ 32
+    → Shows (fundLines n figures out) (fundRead n figures out)
+unfolding fundLines bytes any
+fund-shows n figures out head fit few =
+    shows-then (shows-line (bytes "fund") figures (refl, refl) head) (shows-rows (bytes "contribution") 3 n out (refl, refl) few fit)
+
+pub fund-other : (n : ℕ) (figures out : List ℕ) → Every Other (fundRead n figures out)
+unfolding bytes same
+fund-other n figures out = (refl, every-map Other _ (members n) (λ m i. refl))
+
+pub refused-shows : (number line : ℕ) → Fits64 number → Fits64 line → Shows (refusedLine number line) (worded (bytes "refused") (number ∷ line ∷ []) ∷ [])
+unfolding bytes any
+refused-shows number line h k = shows-line (bytes "refused") (number ∷ line ∷ []) (refl, refl) (h, (k, tt))
+
+pub refused-other : (number line : ℕ) → Every Other (worded (bytes "refused") (number ∷ line ∷ []) ∷ [])
+unfolding bytes same
+refused-other number line = (refl, tt)
