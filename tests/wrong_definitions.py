@@ -58,7 +58,7 @@ SAME_TYPE = [names.split() for names in (
     "last number", "margin extra fall", "room D", "m j m′ k", "x y",
     "nOutside kOutside groupOutside countOutside memberOutside", "step accept",
     "numberOf below0", '"H" "R" "A" "U"', '"period" "member" "day" "acct" "end"',
-    '"daily" "contribution" "fund" "refused"', "ends bad", "minimum scale limit",
+    '"daily" "contribution" "fund" "refused" "total"', "ends bad", "minimum scale limit",
 )]
 # Their arguments may change places.
 COMMUTE = ("eqb", "max", "same")
@@ -76,7 +76,8 @@ FROM = {
     "ceilDiv": "Rattle.numbers.specs.Rounding", "Σ": "Rattle.numbers.specs.Sums",
     "greatest": "Rattle.numbers.specs.Sums", "_⁻": "Rattle.numbers.specs.Signed",
     "take": "lib.ListN", "drop": "lib.ListN", "false": "mathlib.Core.Bool", "true": "mathlib.Core.Bool",
-    "withGroups": "Rattle.methodology.specs.Account",
+    "withGroups": "Rattle.methodology.specs.Account", "scale": "Rattle.methodology.specs.Day",
+    "dailies": "Rattle.methodology.specs.Day", "map": "mathlib.Core.List",
 }
 
 # ---- wrong definitions that no change of one word makes: file, right, wrong
@@ -162,7 +163,18 @@ Text.accountOf | same (getD fs 0 []) (bytes "acct") | same (take 4 line) (bytes 
 Text.numbersAfter | same (getD (fields line) 0 []) word | same (getD (fields line) 0 []) (take (length (getD (fields line) 0 [])) word)
 Text.readPeriod | cond (nOutside n || kOutside k) (ends (refusedLine 1 i)) | cond false (ends (refusedLine 1 i))
 Text.readLine | cond (same l (bytes "end")) | cond (same (take 3 l) (bytes "end"))
-Text.sized | goesOn (dayLines (step g (Call.day d room)) d room) (day (step g (Call.day d room))) | goesOn (dayLines (step g (Call.day d room)) d room) (day g)
+Text.sized | (day after) | (day g)
+Text.totals | ∷ columnSum 5 n out 4 ∷ [] | ∷ []
+Text.columnSum | Σ (members n) | Σ (members (n - 1))
+Text.columnSum | Σ (members n) | Σ (range 2 (n - 1))
+Text.dayLines | (totals n out) | (n ∷ totals n out)
+Text.dayLines | (totals n out) | (totals n (take 5 out))
+Text.dayLines | (totals n out) | (columnSum 5 n out 0 ∷ scale ∷ drop 2 (totals n out))
+Text.dayLines | (totals n out) | (columnSum 5 n out 0 ∷ columnSum 5 n out 1 ∷ columnSum 5 n out 2 ∷ columnSum 5 n out 3 ∷ 2 * columnSum 5 n out 3 ∷ [])
+Text.dayLines | (totals n out) | (columnSum 5 n out 0 ∷ columnSum 5 n out 1 ∷ columnSum 5 n out 2 ∷ 11 * columnSum 5 n out 2 / 10 ∷ columnSum 5 n out 4 ∷ [])
+Text.dayLines | (totals n out) | (columnSum 5 n out 0 ∷ columnSum 5 n out 1 ∷ 100 * getD figures 1 0 ∷ drop 3 (totals n out))
+Text.sized | dayLines (d .terms .number) (after .held .n) (returned after call) (written after call) | printed (bytes "day") (d .terms .number ∷ returned after call) ++ rows (bytes "daily") 5 (after .held .n) (written after call) ++ printed (bytes "total") (totals (after .held .n) (flatMap (λ k. dailies (g .held) (k .accounts)) (take 1 (g .days))))
+Text.sized | dayLines (d .terms .number) (after .held .n) (returned after call) (written after call) | printed (bytes "day") (d .terms .number ∷ returned after call) ++ rows (bytes "daily") 5 (after .held .n) (written after call) ++ printed (bytes "total") (map (λ c. Σ (after .days) (λ k. columnSum 5 (after .held .n) (dailies (g .held) (k .accounts)) c)) (range 0 5))
 Text.followedBy | report ++ rest next | rest next
 """.strip().split("\n")]
 

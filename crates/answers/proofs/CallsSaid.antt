@@ -10,6 +10,7 @@ use Rattle.methodology.specs.declared.Opening.{Opening}
 use Rattle.methodology.specs.Account.{DayInput}
 use Rattle.methodology.specs.Register.{Call, Register, start, refusal, accept, step, returned, written, answerBy, answer, buffer}
 use Rattle.methodology.specs.Text.{refusedLine, dayLines, fundLines, Expected, day, opened as Text·opened, sized as Text·sized, closed as Text·closed, followedBy}
+use Rattle.methodology.proofs.Passed.{step-clear}
 use Rattle.period.specs.declared.Outcome.{Outcome}
 use Rattle.period.specs.declared.Outcome.the-variants.{Closed}
 use Rattle.period.specs.declared.Period.{Period}
@@ -20,7 +21,7 @@ use Rattle.period.specs.Follows.{Follows}
 use Rattle.period.proofs.Simulation.{starts, opening-follows, day-follows, closing-follows}
 use Rattle.answers.specs.InStep.{InStep}
 use Rattle.answers.specs.Said.{said, isOver}
-use Rattle.answers.proofs.RefusalRows.{is-clear, is-row, is-row-at, step-clear}
+use Rattle.answers.proofs.RefusalRows.{is-clear, is-row, is-row-at}
 use Rattle.answers.proofs.Outcomes.{OfOpening, opened, unopened, opening-outcome, OfDay, sized, unsized, unsized-at, day-outcome, OfClosing, closed, unclosed, closing-outcome}
 
 -- ---- the opening
@@ -95,7 +96,7 @@ module _ (n k : ℕ) (g : Register) (period : Period) (h : InStep g period n k) 
   unfolding Text·sized followedBy said isOver
   day-said rest = by (r .outcome) refl (day-outcome m)
     where
-      by : (o : Outcome) → r .outcome ≡ o → OfDay (length (d .headings)) o
+      by : (o : Outcome) → r .outcome ≡ o → OfDay o
           → followedBy (Text·sized (refusal g call) g d line) rest ≡ said o (d .terms .number) line n figures ++ cond (isOver o) [] (rest (day (step g call)))
       by o e (sized total max) =
           let (c, f) = is-clear (refusal g call) _ _ (told e) in
@@ -107,7 +108,7 @@ module _ (n k : ℕ) (g : Register) (period : Period) (h : InStep g period n k) 
   unfolding isOver
   day-in-step = by (r .outcome) refl (day-outcome m)
     where
-      by : (o : Outcome) → r .outcome ≡ o → OfDay (length (d .headings)) o → isOver o ≡ false → InStep (step g call) (r .period) n k
+      by : (o : Outcome) → r .outcome ≡ o → OfDay o → isOver o ≡ false → InStep (step g call) (r .period) n k
       by o e (sized total max) t = still-in-step (is-clear (refusal g call) _ _ (told e) .0)
       by o e (unsized row) t = absurd (true≢false t)
       by o e (unsized-at row index few) t = absurd (true≢false t)

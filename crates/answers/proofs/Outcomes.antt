@@ -1,24 +1,21 @@
 -- Which outcomes each call can have. Its answer has as many figures as the call returns, and rows 5 and 6 of a day alone give an index.
 use mathlib.Core.Path.{_≡_, refl, sym, ap, subst, _∙_}
-use mathlib.Core.Bool.{Bool, true, false, not, _||_, cond}
+use mathlib.Core.Bool.{Bool, true, false, not, cond}
 use mathlib.Core.List.{List, [], _∷_}
 use Prim.Native.Nat.{ℕ, _+_, _*_, _^_, _≤_, _<_}
 use native.Mathlib.Omega.{arith}
-use lib.Dec.{eqb, ltb}
-use lib.ListN.{length, getD}
-use Rattle.numbers.specs.Lists.{firstWhere, Every}
-use Rattle.numbers.proofs.Lists.{first-le}
+use lib.Dec.{eqb}
+use lib.ListN.{length}
+use Rattle.numbers.specs.Lists.{Every}
 use Rattle.methodology.specs.declared.Refusal.{Refusal}
 use Rattle.methodology.specs.declared.Refusal.the-variants.{Clear, Row, RowAt}
 use Rattle.methodology.specs.declared.Status.{Status}
 use Rattle.methodology.specs.declared.Opening.{Opening}
-use Rattle.methodology.specs.Account.{DayInput, accounts, nobody}
+use Rattle.methodology.specs.Account.{DayInput}
 use Rattle.methodology.specs.Day.{total, maxEul, dailies}
-use Rattle.methodology.specs.Refusals.{row_when_else_, row_at_when_else_, rows-of_else_, isOpen, badOpening, badInput, badOutput, badDayNumber, firstBadHeading, lastMissing, badAmount, openingRefusal, accountRows, dayRows, beforeFigures, dayRefusal, closingRefusal}
+use Rattle.methodology.specs.Refusals.{row_when_else_, isOpen, badOpening, openingRefusal, closingRefusal}
 use Rattle.methodology.specs.Register.{accepted, answerBy}
-use Rattle.methodology.proofs.Passed.{by-test}
-use Rattle.validation.proofs.Headings.{bad-heading-le}
-use Rattle.validation.proofs.DayPasses.{accounts-long}
+use Rattle.methodology.proofs.RowLimits.{day-few}
 use Rattle.period.specs.declared.Outcome.{Outcome}
 use Rattle.period.specs.declared.Outcome.the-variants.{Opened, Sized, Closed, Refused, RefusedAt}
 use Rattle.period.specs.declared.Period.{Period}
@@ -73,80 +70,45 @@ opening-sums n figures (unopened number) = tt
 
 -- ---- a day
 
-pub data OfDay (count : ℕ) : Outcome → Type 0 where
-  sized : (total max : ℕ) → OfDay count (Sized total max)
-  unsized : (number : ℕ) → OfDay count (Refused number)
-  unsized-at : (number index : ℕ) → index ≤ count → OfDay count (RefusedAt number index)
+pub data OfDay : Outcome → Type 0 where
+  sized : (total max : ℕ) → OfDay (Sized total max)
+  unsized : (number : ℕ) → OfDay (Refused number)
+  unsized-at : (number index : ℕ) → index ≤ 256 → OfDay (RefusedAt number index)
 
--- the index that a row gives, if it gives one, is at most `most`
-abbrev IndexLe : (most : ℕ) → Refusal → Type 0
-IndexLe most Clear = Unit {0}
-IndexLe most (Row number) = Unit {0}
-IndexLe most (RowAt number index) = index ≤ most
-
-rows-le : (most : ℕ) (x rest : Refusal) → IndexLe most x → IndexLe most rest → IndexLe most (rows-of x else rest)
-unfolding rows-of_else_
-rows-le most Clear rest h k = k
-rows-le most (Row number) rest h k = tt
-rows-le most (RowAt number index) rest h k = h
-
-account-rows-le : (o : Opening) (d : DayInput) → IndexLe (length (d .headings)) (accountRows o d)
-unfolding accountRows row_at_when_else_
-account-rows-le o d =
-    let count = length (d .headings) in
-    let bad5 = firstBadHeading (o .n) nobody (d .headings) in
-    let bad6 = firstWhere badAmount (accounts (o .k) d) in
-    by-test (IndexLe count) (ltb bad5 count || lastMissing (o .n) (d .headings)) (RowAt 5 bad5) _ (λ e. bad-heading-le (o .n) nobody (d .headings))
-    (λ e. by-test (IndexLe count) (ltb bad6 count) (RowAt 6 bad6) Clear (λ e. omega (arith, first-le badAmount (accounts (o .k) d), accounts-long (o .k) d)) (λ e. tt))
-
-index-le : (s : Status) (o : Opening) (last : ℕ) (d : DayInput) (room : ℕ) → IndexLe (length (d .headings)) (dayRefusal s o last d room)
-unfolding dayRefusal beforeFigures dayRows row_when_else_
-index-le s o last d room =
-    let few = IndexLe (length (d .headings)) in
-    rows-le (length (d .headings)) (beforeFigures s o last d room) _
-    (by-test few (not (isOpen s)) (Row 2) _ (λ e. tt)
-    (λ e. by-test few (badOutput o room) (Row 4) _ (λ e. tt)
-    (λ e. by-test few (badInput o d) (Row 4) _ (λ e. tt)
-    (λ e. by-test few (badDayNumber last (d .terms .number)) (Row 3) _ (λ e. tt) (λ e. account-rows-le o d)))))
-    (by-test few (eqb (total o (accounts (o .k) d)) 0) (Row 7) Clear (λ e. tt) (λ e. tt))
-
-pub day-outcome : {p : Period} {d : DayInput} {before after : List ℕ} {r : Reply} → DayMeets p d before r after → OfDay (length (d .headings)) (r .outcome)
+pub day-outcome : {p : Period} {d : DayInput} {before after : List ℕ} {r : Reply} → DayMeets p d before r after → OfDay (r .outcome)
 unfolding dayRow
 day-outcome {p} {d} {before} {r = r} m = by (r .outcome) _ _ (m .answer)
   where
-    by : (x : Outcome) (a b : ℕ) → answerOf x ≡ answerBy (dayRow p d (length before)) (a ∷ b ∷ []) → OfDay (length (d .headings)) x
+    by : (x : Outcome) (a b : ℕ) → answerOf x ≡ answerBy (dayRow p d (length before)) (a ∷ b ∷ []) → OfDay x
     by (Sized total max) a b e = sized total max
     by (Refused number) a b e = unsized number
     by (RefusedAt number index) a b e =
         let met : dayRow p d (length before) ≡ RowAt number index = is-row-at _ _ _ _ (sym e) in
-        unsized-at number index (rw met at (index-le (statusOf p) (heldBy p) (p .accrued .last) d (length before)))
+        unsized-at number index ((rw met at (day-few (statusOf p) (heldBy p) (p .accrued .last) d (length before))) .1)
     by Opened a b e = absurd (let z : 2 ≡ 0 = same-count (dayRow p d (length before)) (a ∷ b ∷ []) [] e in omega arith)
     by (Closed days highest funds) a b e = absurd (let z : 2 ≡ 3 = same-count (dayRow p d (length before)) (a ∷ b ∷ []) (days ∷ highest ∷ funds ∷ []) e in omega arith)
 
-pub day-line : {o : Outcome} (count line : ℕ) → OfDay count o → lineSaid o line ≤ line + 1 + count
+pub day-line : {o : Outcome} (line : ℕ) → OfDay o → lineSaid o line ≤ line + 257
 unfolding lineSaid
-day-line count line (sized total max) = omega arith
-day-line count line (unsized number) = omega arith
-day-line count line (unsized-at number index h) = omega arith
+day-line line (sized total max) = omega arith
+day-line line (unsized number) = omega arith
+day-line line (unsized-at number index h) = omega arith
 
-pub day-width : {o : Outcome} (count n : ℕ) → OfDay count o → widthSaid o * n ≤ 5 * n
+pub day-width : {o : Outcome} (n : ℕ) → OfDay o → widthSaid o * n ≤ 5 * n
 unfolding widthSaid
-day-width count n (sized total max) = omega arith
-day-width count n (unsized number) = omega arith
-day-width count n (unsized-at number index h) = omega arith
+day-width n (sized total max) = omega arith
+day-width n (unsized number) = omega arith
+day-width n (unsized-at number index h) = omega arith
 
--- what a day that is told as accepted has passed, told and written
+-- what a day that is told as accepted has passed and written
 module _ {p : Period} {d : DayInput} {before after : List ℕ} {r : Reply} (m : DayMeets p d before r after) {T top : ℕ} (is : r .outcome ≡ Sized T top) where
   told : (dayRow p d (length before) ≡ Clear) × (total (heldBy p) (accountsBrought p d) ∷ maxEul (heldBy p) (accountsBrought p d) ∷ [] ≡ T ∷ top ∷ [])
   told = is-clear (dayRow p d (length before)) _ _ (sym (m .answer) ∙ ap answerOf is)
 
-  pub sized-passes : Admits p d (length before) × (0 < total (heldBy p) (accountsBrought p d))
+  sized-passes : Admits p d (length before) × (0 < total (heldBy p) (accountsBrought p d))
   sized-passes = passes-all p d (length before) (told .0)
 
-  pub sized-total : T ≡ total (heldBy p) (accountsBrought p d)
-  sized-total = ap (λ (l : List ℕ). getD l 0 0) (sym (told .1))
-
-  pub sized-writes : after ≡ dailies (heldBy p) (accountsBrought p d)
+  sized-writes : after ≡ dailies (heldBy p) (accountsBrought p d)
   sized-writes = m .buffer ∙ rw (told .0)
 
 pub day-sums : {p : Period} {d : DayInput} {before after : List ℕ} {r : Reply} → DayMeets p d before r after → (n : ℕ) → n ≤ 32
@@ -154,7 +116,7 @@ pub day-sums : {p : Period} {d : DayInput} {before after : List ℕ} {r : Reply}
 unfolding sumsSaid
 day-sums {p} {d} {before} {after} {r} m n few = by (r .outcome) refl (day-outcome m)
   where
-    by : (o : Outcome) → r .outcome ≡ o → OfDay (length (d .headings)) o → Every (λ x. x < 2 ^ 64) (sumsSaid o n after)
+    by : (o : Outcome) → r .outcome ≡ o → OfDay o → Every (λ x. x < 2 ^ 64) (sumsSaid o n after)
     by o is (sized T top) =
         let (s, positive) = sized-passes m is in
         totals-fit n after few (subst (Every Few) (sym (sized-writes m is)) (written-few s positive))

@@ -5,9 +5,7 @@ use Prim.Native.Nat.{ℕ}
 use native.Mathlib.Omega.{arith}
 use Rattle.methodology.specs.declared.Refusal.{Refusal}
 use Rattle.methodology.specs.declared.Refusal.the-variants.{Clear, Row, RowAt}
-use Rattle.methodology.specs.Register.{Call, Register, refusal, accept, step, accepted, refused, refusedAt, answerBy}
-
--- ---- the row that an answer tells
+use Rattle.methodology.specs.Register.{accepted, refused, refusedAt, answerBy}
 
 pub is-clear : (x : Refusal) (figures ys : List ℕ) → answerBy x figures ≡ accepted ys → (x ≡ Clear) × (figures ≡ ys)
 is-clear Clear figures ys e = (refl, cc)
@@ -23,9 +21,3 @@ pub is-row-at : (x : Refusal) (figures : List ℕ) (number index : ℕ) → answ
 is-row-at Clear figures number index e = absurd (let z : _≡_ {A = ℕ} 0 1 = cc in omega arith)
 is-row-at (Row n) figures number index e = absurd (let z : _≡_ {A = ℕ} 0 1 = cc in omega arith)
 is-row-at (RowAt n i) figures number index e = cc
-
--- ---- a call that no row refuses
-
-pub step-clear : (g : Register) (c : Call) → refusal g c ≡ Clear → step g c ≡ accept g c
-unfolding step
-step-clear g c e = rw e

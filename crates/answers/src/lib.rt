@@ -7,12 +7,35 @@ use report::put_bytes;
 use report::put_line;
 use report::put_refused;
 use report::put_rows;
+ghost use mathlib.Core.List.{[], _∷_};
 ghost use mathlib.Core.Path.{_≡_};
 ghost use Prim.Native.Nat.{_*_, _≤_, _<_, _^_};
 ghost use lib.ListN.{length};
 ghost use Rattle.numbers.specs.Lists.{Every};
+ghost use Rattle.methodology.specs.Text.{totals, dayLines};
 ghost use Rattle.report.specs.Put.{Put};
 ghost use Rattle.answers.specs.Said.{widthSaid, sumsSaid, lineSaid, said, isOver};
+
+// An accepted day's lines: the day line, n daily lines, and the total line under them.
+fn put_day(
+    out: &mut [u8],
+    at: usize,
+    number: u64,
+    total: u64,
+    max: u64,
+    n: usize,
+    figures: &[u64],
+) -> usize
+    requires { ⌜ (n ≤ 32) × (5 * n ≤ length (now figures)) ⌝ }
+    requires { ⌜ Every (λ x. x < 2 ^ 64) (totals n (now figures)) ⌝ }
+    ensures { λ r. ⌜ Put (now (out .entry)) at (dayLines number n (total ∷ max ∷ []) (now (figures .entry))) (now (out .exit)) r ⌝ }
+{
+    let numbers = [number, total, max];
+    let sums = totals(n, figures);
+    let next = put_line(out, at, b"day", &numbers);
+    let end = put_rows(out, next, b"daily", 5, n, figures);
+    put_line(out, end, b"total", &sums)
+}
 
 // Prints an outcome: `line` is the call's own line, `number` a day's number, and the figures are what the call wrote for n members.
 pub fn say(
@@ -31,13 +54,7 @@ pub fn say(
 {
     match outcome {
         Outcome::Opened => put_bytes(out, at, b""),
-        Outcome::Sized(total, max) => {
-            let numbers = [number, total, max];
-            let next = put_line(out, at, b"day", &numbers);
-            let end = put_rows(out, next, b"daily", 5, n, figures);
-            let sums = totals(n, figures);
-            put_line(out, end, b"total", &sums)
-        }
+        Outcome::Sized(total, max) => put_day(out, at, number, total, max, n, figures),
         Outcome::Closed(days, highest, funds) => {
             let numbers = [days, highest, funds];
             let next = put_line(out, at, b"fund", &numbers);

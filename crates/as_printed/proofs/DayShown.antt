@@ -1,12 +1,12 @@
 -- What a call's answer prints, as it is read back: an accepted day's lines add up, and a closing's lines and a refusal's are no day's.
 use mathlib.Core.Path.{_≡_, refl, sym, ap, subst, _∙_}
 use mathlib.Core.List.{List, [], _∷_, _++_, map, map-map, map-id}
-use Prim.Native.Nat.{ℕ, suc, _+_, _-_, _*_, _≤_, _<_}
+use Prim.Native.Nat.{ℕ, suc, _-_, _*_, _≤_}
 use native.Mathlib.Omega.{arith}
 use lib.ListN.{length, getD}
 use Rattle.numbers.specs.Lists.{range, any, Every}
 use Rattle.numbers.specs.Sums.{Σ}
-use Rattle.numbers.proofs.Lists.{_∈_, mem-range, map-eq, part-length, every-map, every-take, every-drop}
+use Rattle.numbers.proofs.Lists.{mem-range, part-length, every-map, every-take, every-drop}
 use Rattle.numbers.proofs.Sums.{Σ-map}
 use Rattle.methodology.specs.Account.{members}
 use Rattle.methodology.specs.Text.{bytes, same, stretch, refusedLine, rows, columnSum, totals, dayLines, fundLines}

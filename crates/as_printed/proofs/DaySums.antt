@@ -1,10 +1,10 @@
 -- The sums under a day are those of e, share, value, reserve and estimate over its members: a member's numbers stand in its stretch of what
 -- the day wrote. So the first is T.
-use mathlib.Core.Path.{_≡_, refl, ap, _∙_}
+use mathlib.Core.Path.{_≡_, ap, _∙_}
 use mathlib.Core.List.{List, [], _∷_}
-use Prim.Native.Nat.{ℕ, suc, _+_, _-_, _*_, _<_}
+use Prim.Native.Nat.{ℕ, _+_, _-_, _*_, _<_}
 use native.Mathlib.Omega.{arith}
-use lib.ListN.{length, getD}
+use lib.ListN.{getD}
 use Rattle.numbers.specs.Sums.{Σ}
 use Rattle.numbers.proofs.Lists.{_∈_, range-length, range-at, mem-range, part-at}
 use Rattle.numbers.proofs.Rows.{rows-at}

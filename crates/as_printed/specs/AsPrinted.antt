@@ -1,14 +1,19 @@
--- Document 02, Change 1, of what a person reads off a report's bytes: "Each sum equals that of the day's records as printed, and the first
--- equals T." proofs/AsPrinted.antt says it of every report.
+-- Document 02, Change 1, of the report as a person reads it off its bytes: "Each sum equals that of the day's records as printed, and the
+-- first equals T." `AsPrinted` is the claim.
 use mathlib.Core.Path.{_≡_}
 use mathlib.Core.Bool.{false, _||_}
 use mathlib.Core.List.{List, [], _∷_, _++_, map, flatMap}
-use Prim.Native.Nat.{ℕ}
+use mathlib.Core.Option.{some}
+use Prim.Native.Nat.{ℕ, _<_, _^_}
 use lib.ListN.{length, getD, drop}
 use Rattle.numbers.specs.Lists.{range, Every}
 use Rattle.numbers.specs.Sums.{Σ}
-use Rattle.methodology.specs.Account.{members}
-use Rattle.methodology.specs.Text.{LF, bytes, same, split, fields, valueFrom, decimal}
+use Rattle.methodology.specs.declared.Opening.{Opening}
+use Rattle.methodology.specs.Account.{Account, members}
+use Rattle.methodology.specs.Member.{loss}
+use Rattle.methodology.specs.Day.{total, maxEul, share, value, reserve, estimate, dailies}
+use Rattle.methodology.specs.Text.{LF, bytes, same, split, fields, valueFrom, numberOf, decimal, totals, reportOf}
+use Rattle.methodology.specs.Lines.{membersIn}
 use Rattle.demand3.specs.Demand3.{Fits64}
 
 -- ---- a line
@@ -24,7 +29,7 @@ worded word numbers = record { word = word; numbers = numbers }
 abbrev pub lineOf : (line : List ℕ) → Line
 lineOf line = worded (getD (fields line) 0 []) (map (valueFrom 0) (drop 1 (fields line)))
 
--- the lines of a report; the last part is no line, and empty
+-- the lines of a report, and what follows its last LF
 abbrev pub linesOf : (report : List ℕ) → List Line
 linesOf report = map lineOf (split LF report)
 
@@ -59,18 +64,39 @@ pub record AddsUp (n : ℕ) (d : DayRead) : Type 0 where
 
 -- ---- a report
 
--- n, the number of members: the first number of the text's first line, the period line
-abbrev pub membersIn : (text : List ℕ) → ℕ
-membersIn text = getD (lineOf (getD (split LF text) 0 []) .numbers) 0 0
-
--- a line of no day
+-- a line that is no day's
 abbrev pub Other : Line → Type 0
 Other l = (same (l .word) (bytes "day") || same (l .word) (bytes "daily") || same (l .word) (bytes "total")) ≡ false
 
--- A report of n members is its accepted days, each of which adds up, and other lines after them.
+-- A report of n members is its accepted days, each of which adds up, and after them other lines.
 pub record DaysAddUp (n : ℕ) (report : List ℕ) : Type 0 where
   pub days : List DayRead
   pub rest : List Line
   pub whole : linesOf report ≡ flatMap dayRead days ++ rest
   pub add-up : Every (AddsUp n) days
   pub no-day : Every Other rest
+
+-- ---- Change 1
+
+pub record AsPrinted : Type 0 where
+  -- "the sums of e, share, value, reserve and estimate over that day's members", of what a day writes
+  pub sums-of-five : (o : Opening) (accts : List Account)
+      → let e = loss (o .k) accts in
+      let Max = maxEul o accts in
+      let T = total o accts in
+      totals (o .n) (dailies o accts)
+      ≡ Σ (members (o .n)) e
+      ∷ Σ (members (o .n)) (λ m. share (e m) T)
+      ∷ Σ (members (o .n)) (λ m. value (e m) Max T)
+      ∷ Σ (members (o .n)) (λ m. reserve (e m) Max T)
+      ∷ Σ (members (o .n)) (λ m. estimate (e m) Max T)
+      ∷ []
+  -- "and the first equals T"
+  pub first-sum-is-T : (o : Opening) (accts : List Account) → getD (totals (o .n) (dailies o accts)) 0 0 ≡ total o accts
+  -- a number's printed digits have its value, and are that number to the reader of a text, for which a number has 1 to 13 digits
+  pub reads-back : (x : ℕ) → x < 10 ^ 20 → valueFrom 0 (decimal x) ≡ x
+  pub reads-back-as-text : (x : ℕ) → x < 10 ^ 13 → numberOf (decimal x) ≡ some x
+  -- so does every line of every report, and its numbers are below 2^64
+  pub all-decimal : (text : List ℕ) → Every Decimal (split LF (reportOf text))
+  -- "Each sum equals that of the day's records as printed, and the first equals T."
+  pub days-add-up : (text : List ℕ) → DaysAddUp (membersIn text) (reportOf text)

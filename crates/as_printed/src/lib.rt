@@ -1,2 +1,2 @@
-// Change 1, "as printed": the totals of a report as a person reads them off its bytes. There is no code here: specs/AsPrinted.antt states it,
-// proofs/AsPrinted.antt proves it of every report.
+// Change 1, "as printed": what a person reads off a report adds up. There is no code here: specs/AsPrinted.antt states it,
+// proofs/EveryReport.antt proves it.

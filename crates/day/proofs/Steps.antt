@@ -2,16 +2,14 @@
 use mathlib.Core.Path.{_≡_, refl, sym, subst, _∙_}
 use mathlib.Core.Bool.{Bool, true, false, true≢false, cond}
 use mathlib.Core.List.{List, [], _++_, append-nil}
-use Prim.Native.Nat.{ℕ, _+_, _-_, _*_, _≤_, _<_}
+use Prim.Native.Nat.{ℕ, _+_, _*_, _≤_, _<_}
 use native.Mathlib.Nat.{mul-le-mul}
 use native.Mathlib.Omega.{arith}
 use lib.IntN.{ℤ}
-use lib.ListN.{length, take, drop, length-map, length-append}
+use lib.ListN.{length, take, drop, length-append}
 use lib.Seq.{length-take-le}
-use Rattle.numbers.specs.Lists.{range}
-use Rattle.numbers.proofs.Lists.{range-length}
 use Rattle.methodology.specs.declared.DayTerms.{DayTerms}
-use Rattle.methodology.specs.Account.{DayInput, headingAt}
+use Rattle.methodology.specs.Account.{DayInput}
 use Rattle.methodology.specs.Register.{Call, Register, step}
 use Rattle.methodology.specs.Text.{LF, split, refusedLine, reportFrom}
 use Rattle.report.specs.Put.{Put}
@@ -21,21 +19,12 @@ use Rattle.period.specs.declared.Reply.{Reply}
 use Rattle.period.specs.Calls.{DayMeets}
 use Rattle.answers.specs.InStep.{InStep}
 use Rattle.answers.specs.Said.{said, isOver}
-use Rattle.answers.proofs.Outcomes.{OfDay, day-outcome}
 use Rattle.answers.proofs.CallsSaid.{day-said, day-in-step}
 use Rattle.lines.specs.declared.Lines.{Lines}
 use Rattle.lines.specs.declared.Lines.the-variants.{Read, Stopped}
-use Rattle.accounts.specs.AcctLines.{columnAt, dayRead, accountsDue, dayDue, AccountsMeet}
+use Rattle.accounts.specs.AcctLines.{dayRead, accountsDue, dayDue, AccountsMeet}
 use Rattle.day.specs.declared.Turn.{Turn}
 use Rattle.day.specs.Turns.{daysDue, TurnMeets, ended, goes-on, Stands}
-
--- ---- the call of a day that was read
-
-pub read-outcome : (count k : ℕ) (terms : DayTerms) (columns : List ℕ) (npvs : List ℤ) {period : Period} {before figures : List ℕ} {r : Reply}
-    → DayMeets period (dayRead terms count k columns npvs) before r figures → OfDay count (r .outcome)
-read-outcome count k terms columns npvs {r = r} m =
-    let heading = headingAt (columnAt 0 columns) (columnAt 1 columns) (columnAt 2 columns) in
-    subst (λ (c : ℕ). OfDay c (r .outcome)) (length-map (range 0 count) heading ∙ range-length 0 count) (day-outcome m)
 
 -- the first n of an array, where n figures were written into it
 module _ (figures rest : List ℕ) (n : ℕ) (long : length figures ≡ n) where

@@ -51,7 +51,7 @@ closes g c a q out is e =
     rw (said, wrote, is) (covers (step g k) (length out) (rw is at (q .counted)) (days-kept g (length out) clear))
 
 -- one call, which the register follows
-agrees : {g : Register} {p : Period} → Follows g p → (a : Asked) (r : Reply) (after : List ℕ) → Meets p a r after
+pub agrees : {g : Register} {p : Period} → Follows g p → (a : Asked) (r : Reply) (after : List ℕ) → Meets p a r after
     → Follows (step g (callOf a)) (r .period) × Agrees g (record { asked = a; reply = r; after = after })
 agrees {g} f (Asked.opening o) r after (m, none) =
     let (f′, e) = opening-follows f m in

@@ -1,33 +1,32 @@
 -- Every number that a contract names fits 64 bits, on any period: a row's number and index, a day's figures by the bound of T, a closing's
 -- by the range of an open period.
 use mathlib.Core.Path.{_≡_, refl, sym, ap, subst, _∙_}
-use mathlib.Core.Bool.{Bool, true, false, not, _||_}
+use mathlib.Core.Bool.{true, false}
 use mathlib.Core.List.{List, [], _∷_, flatMap}
 use Prim.Native.Nat.{ℕ, _+_, _*_, _≤_, _<_}
 use native.Mathlib.Omega.{arith}
-use lib.Dec.{ltb, eqb}
 use lib.ListN.{length, getD, replicate}
 use lib.Seq.{getD-take, length-take-le}
-use Rattle.numbers.specs.Lists.{range, firstWhere, Every}
+use Rattle.numbers.specs.Lists.{range, Every}
 use Rattle.numbers.specs.Sums.{Σ}
-use Rattle.numbers.proofs.Lists.{_∈_, by-index, at-any, replicate-at, first-le, range-length, table-length, mem-every, every-map, every-flatMap, every-weaken}
+use Rattle.numbers.proofs.Lists.{_∈_, by-index, at-any, replicate-at, table-length, mem-every, every-map, every-flatMap, every-weaken}
 use Rattle.numbers.proofs.Rows.{rows-length}
 use Rattle.numbers.proofs.Sums.{Σ-bound}
 use Rattle.methodology.specs.declared.Refusal.{Refusal}
 use Rattle.methodology.specs.declared.Refusal.the-variants.{Clear, Row, RowAt}
 use Rattle.methodology.specs.declared.Opening.{Opening}
-use Rattle.methodology.specs.Account.{noOpening, DayInput, accounts, nobody}
+use Rattle.methodology.specs.Account.{noOpening, DayInput}
 use Rattle.methodology.specs.Day.{total, maxEul, scale, dailies}
 use Rattle.methodology.specs.Contribution.{charge, funded, unfunded, three}
-use Rattle.methodology.specs.Refusals.{row_when_else_, row_at_when_else_, rows-of_else_, isOpen, badOpening, openingRefusal, badInput, badOutput, badDayNumber, firstBadHeading, lastMissing, badAmount, accountRows, dayRows, beforeFigures, dayRefusal, closingRefusal}
+use Rattle.methodology.specs.Refusals.{isOpen, badOpening, openingRefusal}
 use Rattle.methodology.specs.Register.{ifAccepted, accepted, answerBy}
 use Rattle.methodology.proofs.Passed.{passed, either}
+use Rattle.methodology.proofs.RowLimits.{RowFew, opening-few, day-few, closing-few}
 use Rattle.quotient.specs.Ranges.{greatestTotal}
 use Rattle.quotient.proofs.QuotientBounds.{raw-le}
 use Rattle.validation.specs.Slices.{inPlaces}
-use Rattle.validation.proofs.Headings.{bad-heading-le}
 use Rattle.validation.proofs.OpeningPasses.{opening-leaves}
-use Rattle.validation.proofs.DayPasses.{sized, accounts-long}
+use Rattle.validation.proofs.DayPasses.{sized}
 use Rattle.exposure.proofs.MaxTotal.{max-le-total}
 use Rattle.period.specs.declared.Period.{Period}
 use Rattle.period.specs.declared.Outcome.{Outcome}
@@ -46,59 +45,17 @@ use Rattle.demand3.specs.Demand3.{Fits64, numbersIn, NarrowOpening, Narr
 
 -- ---- rows
 
--- a row's number and index
-abbrev RowFits : Refusal → Type 0
-RowFits Clear = Unit {0}
-RowFits (Row number) = Fits64 number
-RowFits (RowAt number index) = Fits64 number × Fits64 index
+opening-row-few : (p : Period) (o : Opening) → RowFew (openingRow p o)
+unfolding openingRow
+opening-row-few p o = opening-few (statusOf p) o
 
-when-fits : (number : ℕ) (b : Bool) (rest : Refusal) → Fits64 number → (b ≡ false → RowFits rest) → RowFits (row number when b else rest)
-unfolding row_when_else_
-when-fits number true rest h f = h
-when-fits number false rest h f = f refl
+day-row-few : (p : Period) (d : DayInput) (room : ℕ) → RowFew (dayRow p d room)
+unfolding dayRow
+day-row-few p d room = day-few (statusOf p) (heldBy p) (p .accrued .last) d room
 
-at-fits : (number index : ℕ) (b : Bool) (rest : Refusal) → Fits64 number → Fits64 index → RowFits rest → RowFits (row number at index when b else rest)
-unfolding row_at_when_else_
-at-fits number index true rest h i f = (h, i)
-at-fits number index false rest h i f = f
-
-rows-fit : (x rest : Refusal) → RowFits x → RowFits rest → RowFits (rows-of x else rest)
-unfolding rows-of_else_
-rows-fit Clear rest h f = f
-rows-fit (Row number) rest h f = h
-rows-fit (RowAt number index) rest h f = h
-
-opening-row-fits : (p : Period) (o : Opening) → RowFits (openingRow p o)
-unfolding openingRow openingRefusal
-opening-row-fits p o = when-fits 2 (isOpen (statusOf p)) _ (omega arith) (λ e. when-fits 1 (badOpening o) Clear (omega arith) (λ e. tt))
-
-closing-row-fits : (p : Period) (room : ℕ) → RowFits (closingRow p room)
-unfolding closingRow closingRefusal
-closing-row-fits p room =
-    when-fits 2 (not (isOpen (statusOf p))) _ (omega arith)
-    (λ e. when-fits 8 (eqb (p .accrued .days) 0) _ (omega arith)
-    (λ e. when-fits 4 (not (eqb room (3 * p .held .n))) Clear (omega arith) (λ e. tt)))
-
-day-rows-fit : (o : Opening) (last : ℕ) (d : DayInput) → RowFits (dayRows o last d)
-unfolding dayRows accountRows
-day-rows-fit o last d =
-    let hs = d .headings in
-    let accts = accounts (o .k) d in
-    let bad5 = firstBadHeading (o .n) nobody hs in
-    let bad6 = firstWhere badAmount accts in
-    when-fits 4 (badInput o d) _ (omega arith)
-    (λ e. let few = sized o d e .few in
-    when-fits 3 (badDayNumber last (d .terms .number)) _ (omega arith)
-    (λ f. at-fits 5 bad5 (ltb bad5 (length hs) || lastMissing (o .n) hs) _ (omega arith) (omega (arith, bad-heading-le (o .n) nobody hs))
-    (at-fits 6 bad6 (ltb bad6 (length hs)) Clear (omega arith) (omega (arith, first-le badAmount accts, accounts-long (o .k) d)) tt)))
-
-day-row-fits : (p : Period) (d : DayInput) (room : ℕ) → RowFits (dayRow p d room)
-unfolding dayRow dayRefusal beforeFigures
-day-row-fits p d room =
-    rows-fit (beforeFigures (statusOf p) (heldBy p) (p .accrued .last) d room) _
-    (when-fits 2 (not (isOpen (statusOf p))) _ (omega arith)
-    (λ e. when-fits 4 (badOutput (heldBy p) room) _ (omega arith) (λ e. day-rows-fit (heldBy p) (p .accrued .last) d)))
-    (when-fits 7 (eqb (total (heldBy p) (accountsBrought p d)) 0) Clear (omega arith) (λ e. tt))
+closing-row-few : (p : Period) (room : ℕ) → RowFew (closingRow p room)
+unfolding closingRow
+closing-row-few p room = closing-few (statusOf p) (heldBy p) (p .accrued .days) room
 
 -- ---- lists
 
@@ -198,16 +155,16 @@ narrow-fresh = record { held = narrow-places noOpening (omega arith) (omega arit
 
 -- ---- a call, by what the refusal table says
 
-answer-fits : (x : Refusal) (figures : List ℕ) → RowFits x → (x ≡ Clear → Every Fits64 figures) → Every Fits64 (numbersIn (answerBy x figures))
+answer-fits : (x : Refusal) (figures : List ℕ) → RowFew x → (x ≡ Clear → Every Fits64 figures) → Every Fits64 (numbersIn (answerBy x figures))
 answer-fits Clear figures h f = f refl
-answer-fits (Row number) figures h f = (h, tt)
-answer-fits (RowAt number index) figures (h, i) f = (h, (i, tt))
+answer-fits (Row number) figures h f = (omega arith, tt)
+answer-fits (RowAt number index) figures (h, i) f = (omega arith, (omega arith, tt))
 
 pub fits : {p : Period} → Narrow p → (a : Asked) (r : Reply) (after : List ℕ) → Meets p a r after → Fits (record { asked = a; reply = r; after = after })
 unfolding openingRow openingRefusal
 fits {p} q (Asked.opening o) r after (m, none) =
     record {
-      answer = rw (m .answer) (answer-fits (openingRow p o) [] (opening-row-fits p o) (λ e. tt));
+      answer = rw (m .answer) (answer-fits (openingRow p o) [] (opening-row-few p o) (λ e. tt));
       period = subst Narrow (sym (m .period)) (either Narrow (openingRow p o) _ p (λ e. narrow-opened o (passed 1 (badOpening o) Clear (passed 2 (isOpen (statusOf p)) _ e .1) .0)) q);
       buffer = λ b. rw none tt;
       long = rw none refl;
@@ -216,7 +173,7 @@ fits {p} q (Asked.day d out) r after m =
     let x = dayRow p d (length out) in
     let pass : x ≡ Clear → Admits p d (length out) × (0 < total (heldBy p) (accountsBrought p d)) = passes-all p d (length out) in
     record {
-      answer = rw (m .answer) (answer-fits x _ (day-row-fits p d (length out)) (λ e. day-figures-fit p d (length out) (pass e)));
+      answer = rw (m .answer) (answer-fits x _ (day-row-few p d (length out)) (λ e. day-figures-fit p d (length out) (pass e)));
       period = subst Narrow (sym (m .period)) (either Narrow x _ p (λ e. narrow-sized p d (sized-in-range p d (pass e .0) (pass e .1)) q) q);
       buffer = λ b. subst (Every Fits64) (sym (m .buffer)) (either (Every Fits64) x _ out (λ e. dailies-fit p d (length out) (pass e)) b);
       long = ap length (m .buffer) ∙ either (λ (l : List ℕ). length l ≡ length out) x _ out (λ e. dailies-long (heldBy p) (accountsBrought p d) ∙ sym (pass e .0 .room-long)) refl;
@@ -225,7 +182,7 @@ fits {p} q (Asked.closing out) r after m =
     let x = closingRow p (length out) in
     let pass : x ≡ Clear → Closable p (length out) = closable p (length out) in
     record {
-      answer = rw (m .answer) (answer-fits x _ (closing-row-fits p (length out)) (λ e. closing-figures-fit (pass e) (q .accrued .sums-long)));
+      answer = rw (m .answer) (answer-fits x _ (closing-row-few p (length out)) (λ e. closing-figures-fit (pass e) (q .accrued .sums-long)));
       period = subst Narrow (sym (m .period)) (either Narrow x _ p (λ e. narrow-closed p q) q);
       buffer = λ b. subst (Every Fits64) (sym (m .buffer)) (either (Every Fits64) x _ out (λ e. closing-fits (pass e) (q .accrued .sums-long)) b);
       long = ap length (m .buffer) ∙ either (λ (l : List ℕ). length l ≡ length out) x _ out (λ e. closing-long (pass e) (q .accrued .sums-long)) refl;

@@ -1,6 +1,7 @@
 mod Covering
 mod EveryList
-pub mod Fitting
+mod Fitting
+pub mod RegisterFits
 pub mod Facts
 pub mod Returns
 pub mod Demand3

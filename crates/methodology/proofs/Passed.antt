@@ -10,7 +10,7 @@ use Rattle.numbers.proofs.Tests.{neither}
 use Rattle.methodology.specs.declared.Refusal.{Refusal}
 use Rattle.methodology.specs.declared.Refusal.the-variants.{Clear, Row, RowAt}
 use Rattle.methodology.specs.Refusals.{row_when_else_, row_at_when_else_, rows-of_else_, outside, badDayNumber}
-use Rattle.methodology.specs.Register.{ifAccepted}
+use Rattle.methodology.specs.Register.{Call, Register, refusal, accept, ifAccepted, step}
 
 pub passed : (number : ℕ) (b : Bool) (rest : Refusal) → row number when b else rest ≡ Clear → (b ≡ false) × (rest ≡ Clear)
 unfolding row_when_else_
@@ -27,6 +27,11 @@ unfolding rows-of_else_
 passed-rows Clear rest e = (refl, e)
 passed-rows (Row number) rest e = let z : _≡_ {A = ℕ} 0 1 = cc in absurd (omega arith)
 passed-rows (RowAt number index) rest e = let z : _≡_ {A = ℕ} 0 1 = cc in absurd (omega arith)
+
+-- the register after a call that no row refuses
+pub step-clear : (g : Register) (c : Call) → refusal g c ≡ Clear → step g c ≡ accept g c
+unfolding step
+step-clear g c e = rw e
 
 -- what holds of both ways holds of the one that is taken
 pub either : {A : Type 0} (P : A → Type 0) (x : Refusal) (a b : A) → (x ≡ Clear → P a) → P b → P (ifAccepted x a b)

@@ -1,24 +1,19 @@
 -- A report has at most 147,456 bytes. The numbers of accepted days rise to 31, so there are at most 31 of them; a day prints at most 4,500
--- bytes, and so does what ends the report. Each line takes what it prints from what can still be printed.
-use mathlib.Core.Path.{_≡_, refl}
-use mathlib.Core.Bool.{_||_, cond}
+-- bytes, and so does what ends the report.
+use mathlib.Core.Path.{_≡_, refl, ap}
+use mathlib.Core.Bool.{cond}
 use mathlib.Core.List.{List, [], _∷_, _++_, flatMap}
-use mathlib.Core.Option.{Option, none, some}
 use Prim.Native.Nat.{ℕ, zero, suc, _+_, _-_, _*_, _/_, _%_, _≤_}
 use native.Mathlib.Omega.{arith}
-use lib.Dec.{ltb, eqb}
-use lib.ListN.{length, getD, take, drop, length-append, length-take}
+use lib.Dec.{ltb}
+use lib.ListN.{length, take, drop, length-append, length-take}
 use Rattle.numbers.proofs.Lists.{range-length}
-use Rattle.numbers.proofs.Tests.{neither}
-use Rattle.methodology.specs.declared.Refusal.{Refusal}
-use Rattle.methodology.specs.declared.Refusal.the-variants.{Clear, Row, RowAt}
-use Rattle.methodology.specs.declared.Opening.{Opening}
-use Rattle.methodology.specs.Account.{DayInput, members}
-use Rattle.methodology.specs.Refusals.{nOutside, kOutside, countOutside}
-use Rattle.methodology.specs.Register.{Call, Register, start, lastNumber, refusal, accept, step, returned, written}
-use Rattle.methodology.specs.Text.{LF, tab, bytes, same, split, badBytes, AccountLine, digits, decimal, printed, refusedLine, rows, totals, dayLines, fundLines, Expected, period, member, day, account, afterEnd, Read, ends, goesOn, readPeriod, opened, readMember, readDay, sized, withAccount, readAccount, readLine, closed, atEnd, followedBy, reportFrom, reportOf}
-use Rattle.methodology.proofs.Passed.{inside, either, by-test}
+use Rattle.methodology.specs.Account.{members}
+use Rattle.methodology.specs.Register.{Call, Register, start, lastNumber, accept, step, returned, written}
+use Rattle.methodology.specs.Text.{LF, tab, bytes, digits, decimal, printed, refusedLine, stretch, rows, totals, dayLines, fundLines, reportOf}
+use Rattle.methodology.proofs.Passed.{step-clear, by-test}
 use Rattle.methodology.proofs.Enough.{rises}
+use Rattle.methodology.proofs.Reports.{dayCall, closingCall, sizedLines, Rest, a-day, a-fund, a-refusal, Report, begun, not-begun, reports}
 
 -- ---- the report's lines
 
@@ -52,7 +47,7 @@ rows-short word width n out h =
     let all : length (rows word width n out) ≤ 132 * length (members n) = pieces-short 132 _ one (members n) in
     omega (arith, range-length 1 n)
   where
-    one : (m : ℕ) → length (printed word (m ∷ take width (drop (width * (m - 1)) out))) ≤ 132
+    one : (m : ℕ) → length (printed word (m ∷ stretch width m out)) ≤ 132
     one m = let part = drop (width * (m - 1)) out in omega (arith, printed-short word (m ∷ take width part), length-take width part)
 
 -- the most bytes that a day prints, and that the end of a report does
@@ -79,135 +74,31 @@ refused-short : (number line : ℕ) → length (refusedLine number line) ≤ aDa
 unfolding bytes
 refused-short number line = omega (arith, printed-short (bytes "refused") (number ∷ line ∷ []))
 
--- ---- what can still be printed
+-- ---- the whole report, by what it is made of
 
--- the number of members, 0 where none is read yet
-abbrev memberCount : Expected → ℕ
-memberCount period = 0
-memberCount (member o) = o .n
-memberCount (day g) = g .held .n
-memberCount (account g d at count used) = g .held .n
-memberCount (afterEnd g at) = g .held .n
+-- the end, and a day for each number above the last: an accepted day's number is above it
+rest-short : {last : ℕ} {g : Register} {s : List ℕ} → g .held .n ≤ 32 → Rest last g s → length s ≤ aDay + aDay * (31 - lastNumber (g .days))
+unfolding accept returned
+rest-short {g = g} few (a-day {rest = rest} d clear more) =
+    let call = dayCall g d in
+    let after = step g call in
+    let members : after .held .n ≡ g .held .n = ap (λ (x : Register). x .held .n) (step-clear g call clear) in
+    let number : lastNumber (after .days) ≡ d .terms .number = ap (λ (x : Register). lastNumber (x .days)) (step-clear g call clear) in
+    let printed = day-short (d .terms .number) (after .held .n) (returned after call) (written after call) refl (omega arith) in
+    omega (arith, length-append (sizedLines after d call) rest, rest-short (omega arith) more, rises g d (5 * g .held .n) clear)
+rest-short {g = g} few (a-fund clear) =
+    let call = closingCall g in
+    let after = step g call in
+    let members : after .held .n ≡ g .held .n = ap (λ (x : Register). x .held .n) (step-clear g call clear) in
+    omega (arith, fund-short (after .held .n) (returned after call) (written after call) refl (omega arith))
+rest-short few (a-refusal number line h k) = omega (arith, refused-short number line)
 
--- the most bytes that can still be printed: those of the end, and of a day for each number above the last
-abbrev most : Expected → ℕ
-most period = aDay + aDay * 31
-most (member o) = aDay + aDay * 31
-most (day g) = aDay + aDay * (31 - lastNumber (g .days))
-most (account g d at count used) = aDay + aDay * (31 - lastNumber (g .days))
-most (afterEnd g at) = aDay
-
--- a line and those after it print at most m bytes
-abbrev AtMost : (m : ℕ) → Read → Type 0
-AtMost m (ends report) = length report ≤ m
-AtMost m (goesOn report next) = (memberCount next ≤ 32) × (length report + most next ≤ m)
-
--- there is room for a refusal
-refused-most : (e : Expected) (number line : ℕ) → length (refusedLine number line) ≤ most e
-refused-most period number line = omega (arith, refused-short number line)
-refused-most (member o) number line = omega (arith, refused-short number line)
-refused-most (day g) number line = omega (arith, refused-short number line)
-refused-most (account g d at count used) number line = omega (arith, refused-short number line)
-refused-most (afterEnd g at) number line = refused-short number line
-
--- ---- a line
-
-short-period : (i : ℕ) (read : Option (List ℕ)) → AtMost (most period) (readPeriod i read)
-unfolding readPeriod
-short-period i none = refused-most period 9 i
-short-period i (some ns) =
-    let n = getD ns 0 0 in
-    by-test (AtMost (most period)) (nOutside n || kOutside (getD ns 1 0)) _ _ (λ e. refused-most period 1 i)
-    (λ e. (inside _ _ n (neither (nOutside n) _ e .0) .1, omega arith))
-
-short-opened : (x : Refusal) (o : Opening) → o .n ≤ 32 → AtMost (most (member o)) (opened x o)
-unfolding opened step accept
-short-opened Clear o few =
-    either (λ (g : Register). AtMost (most (member o)) (goesOn [] (day g))) (refusal start (Call.opening o)) _ _ (λ e. (few, omega arith)) (omega arith, omega arith)
-short-opened (Row number) o few = refused-most (member o) number 1
-short-opened (RowAt number index) o few = refused-most (member o) number 1
-
-short-member : (o : Opening) (i : ℕ) (read : Option (List ℕ)) → o .n ≤ 32 → AtMost (most (member o)) (readMember o i read)
-unfolding readMember
-short-member o i none few = refused-most (member o) 9 i
-short-member o i (some ns) few =
-    let P = AtMost (most (member o)) in
-    let groups = o .groups ++ (getD ns 1 0 ∷ []) in
-    by-test P (eqb (getD ns 0 0) (length groups)) _ _
-    (λ e. by-test P (eqb (length groups) (o .n)) _ _ (λ all. short-opened _ _ few) (λ more. (few, omega arith)))
-    (λ e. refused-most (member o) 9 i)
-
-short-day : (g : Register) (i : ℕ) (read : Option (List ℕ)) → g .held .n ≤ 32 → AtMost (most (day g)) (readDay g i read)
-unfolding readDay
-short-day g i none few = refused-most (day g) 9 i
-short-day g i (some ns) few =
-    by-test (AtMost (most (day g))) (countOutside (getD ns 1 0)) _ _ (λ e. refused-most (day g) 4 i) (λ e. (few, omega arith))
-
--- an accepted day's number is above the last, so there is room for its lines
-short-sized : (x : Refusal) (g : Register) (d : DayInput) (i : ℕ) → g .held .n ≤ 32 → refusal g (Call.day d (5 * g .held .n)) ≡ x
-    → AtMost (most (day g)) (sized x g d i)
-unfolding sized step accept returned
-short-sized Clear g d i few e =
-    let call = Call.day d (5 * g .held .n) in
-    let r = rises g d (5 * g .held .n) e in
-    let lines = day-short (d .terms .number) (g .held .n) (returned (accept g call) call) (written (accept g call) call) refl few in
-    rw e (few, omega arith)
-short-sized (Row number) g d i few e = refused-most (day g) number i
-short-sized (RowAt number index) g d i few e = refused-most (day g) number (i + 1 + index)
-
-short-account : (g : Register) (d : DayInput) (at count used i : ℕ) (read : Option AccountLine) → g .held .n ≤ 32
-    → AtMost (most (day g)) (readAccount g d at count used i read)
-unfolding readAccount
-short-account g d at count used i none few = refused-most (day g) 9 i
-short-account g d at count used i (some a) few =
-    by-test (AtMost (most (day g))) (eqb (length (withAccount d a .headings)) count) _ _ (λ all. short-sized _ g (withAccount d a) at few refl)
-    (λ more. (few, omega arith))
-
-short-line : (e : Expected) (i : ℕ) (l : List ℕ) → memberCount e ≤ 32 → AtMost (most e) (readLine e i l)
-unfolding readLine
-short-line period i l few = short-period i _
-short-line (member o) i l few = short-member o i _ few
-short-line (day g) i l few = by-test (AtMost (most (day g))) (same l (bytes "end")) _ _ (λ e. (few, omega arith)) (λ e. short-day g i _ few)
-short-line (account g d at count used) i l few =
-    let now = used + length l + 1 in
-    by-test (AtMost (most (day g))) (ltb 65536 now) _ _ (λ e. refused-most (day g) 9 i) (λ e. short-account g d at count now i _ few)
-short-line (afterEnd g at) i l few = refused-most (afterEnd g at) 9 i
-
--- ---- the end
-
-short-closed : (x : Refusal) (g : Register) (i : ℕ) → g .held .n ≤ 32 → length (closed x g i) ≤ aDay
-unfolding closed step accept returned
-short-closed Clear g i few =
-    let call = Call.closing (3 * g .held .n) in
-    fund-short _ _ _ refl (either (λ (after : Register). after .held .n ≤ 32) (refusal g call) _ _ (λ e. few) few)
-short-closed (Row number) g i few = refused-short number i
-short-closed (RowAt number index) g i few = refused-short number i
-
-short-end : (e : Expected) (i : ℕ) (rest : List ℕ) → memberCount e ≤ 32 → length (atEnd e i rest) ≤ most e
-unfolding atEnd
-short-end period i rest few = refused-most period 9 i
-short-end (member o) i rest few = refused-most (member o) 9 i
-short-end (day g) i rest few = refused-most (day g) 9 i
-short-end (account g d at count used) i rest few = refused-most (day g) 9 i
-short-end (afterEnd g at) i rest few =
-    by-test (λ (s : List ℕ). length s ≤ aDay) (same rest []) _ _ (λ e. short-closed _ g at few) (λ e. refused-short 9 i)
-
--- ---- the whole report
-
-short-followed : (m : ℕ) (r : Read) (rest : Expected → List ℕ) → AtMost m r → ((e : Expected) → memberCount e ≤ 32 → length (rest e) ≤ most e)
-    → length (followedBy r rest) ≤ m
-unfolding followedBy
-short-followed m (ends report) rest h after = h
-short-followed m (goesOn report next) rest h after = omega (arith, length-append report (rest next), after next (h .0))
-
-short-from : (i : ℕ) (parts : List (List ℕ)) (e : Expected) → memberCount e ≤ 32 → length (reportFrom i parts e) ≤ most e
-unfolding reportFrom
-short-from i [] e few = omega arith
-short-from i (l ∷ []) e few = short-end e i l few
-short-from i (l ∷ m ∷ ls) e few =
-    let line = by-test (AtMost (most e)) (badBytes l) _ _ (λ b. refused-most e 9 i) (λ b. short-line e i l few) in
-    short-followed (most e) _ _ line (short-from (i + 1) (m ∷ ls))
+report-short : {n last : ℕ} {s : List ℕ} → Report n last s → length s ≤ 147456
+unfolding accept
+report-short (begun o is few clear rest) =
+    let members : step start (Call.opening o) .held .n ≡ o .n = ap (λ (x : Register). x .held .n) (step-clear start (Call.opening o) clear) in
+    omega (arith, rest-short (omega arith) rest)
+report-short (not-begun number line h k) = omega (arith, refused-short number line)
 
 pub short : (text : List ℕ) → length (reportOf text) ≤ 147456
-unfolding reportOf
-short text = omega (arith, short-from 1 (split LF text) period (omega arith))
+short text = report-short (reports text)

@@ -1,5 +1,5 @@
--- Document 01, "The month's text": for any bytes, the bytes of the report. What is read makes calls, and the register answers them. With
--- document 02's Change 1, a total under each day.
+-- Document 01, "The month's text": for any bytes, the bytes of the report. What is read makes calls, and the register answers them. By
+-- document 02's Change 1 a total stands under each day.
 use mathlib.Core.Bool.{Bool, true, false, not, _&&_, _||_, cond}
 use mathlib.Core.List.{List, [], _∷_, _++_, flatMap}
 use mathlib.Core.Option.{Option, none, some}
@@ -159,11 +159,12 @@ stretch width m out = take width (drop (width * (m - 1)) out)
 unfoldable pub rows : (word : List ℕ) → (width n : ℕ) → (out : List ℕ) → List ℕ
 rows word width n out = flatMap (λ m. printed word (m ∷ stretch width m out)) (members n)
 
--- the sum of column c of what a call wrote, which is the number at index c of each member's
+-- the sum of a column of what a call wrote: of each member's number at index c in its stretch
 unfoldable pub columnSum : (width n : ℕ) → (out : List ℕ) → (c : ℕ) → ℕ
 columnSum width n out c = Σ (members n) (λ m. getD (stretch width m out) c 0)
 
--- Document 02, Change 1: "the sums of e, share, value, reserve and estimate over that day's members", in this order in what a day wrote
+-- Document 02, Change 1: "the sums of e, share, value, reserve and estimate over that day's members", the columns of what a day wrote, in
+-- their order
 unfoldable pub totals : (n : ℕ) → (out : List ℕ) → List ℕ
 totals n out = columnSum 5 n out 0 ∷ columnSum 5 n out 1 ∷ columnSum 5 n out 2 ∷ columnSum 5 n out 3 ∷ columnSum 5 n out 4 ∷ []
 

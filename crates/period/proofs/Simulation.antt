@@ -130,10 +130,13 @@ opening-follows {g} {p} {o} f m =
 
 -- ---- day
 
-day-row : {g : Register} {p : Period} → Follows g p → (d : DayInput) (room : ℕ) → dayRow p d room ≡ refusal g (Call.day d room)
+pub held-by : {g : Register} {p : Period} → Follows g p → heldBy p ≡ g .held
+held-by {g} f = ap heldBy (f .is) ∙ held-is g (f .good)
+
+pub day-row : {g : Register} {p : Period} → Follows g p → (d : DayInput) (room : ℕ) → dayRow p d room ≡ refusal g (Call.day d room)
 unfolding dayRow refusal dayRefusal beforeFigures periodOf
 day-row {g} {p} f d room =
-    let o : heldBy p ≡ g .held = ap heldBy (f .is) ∙ held-is g (f .good) in
+    let o = held-by f in
     let l : p .accrued .last ≡ lastNumber (g .days) = ap (λ (p : Period). p .accrued .last) (f .is) in
     rw (open-alike f, o, l)
 

@@ -19,13 +19,14 @@ use Rattle.methodology.specs.Member.{loss}
 use Rattle.methodology.specs.Day.{total, maxEul, scale, share, five, dailies}
 use Rattle.methodology.specs.Refusals.{isOpen, badOutput, badAmount, beforeFigures}
 use Rattle.methodology.proofs.Passed.{passed, passed-rows}
+use Rattle.methodology.proofs.RowLimits.{accounts-long}
 use Rattle.quotient.specs.Ranges.{Loss, greatestTotal}
 use Rattle.quotient.proofs.QuotientBounds.{share-le}
 use Rattle.validation.specs.Slices.{plainDay, Even, Lent, none}
 use Rattle.validation.specs.Passing.{Sized, Passes}
 use Rattle.validation.proofs.Headings.{headings-length}
 use Rattle.validation.proofs.OpeningPasses.{opening-leaves}
-use Rattle.validation.proofs.DayPasses.{sized, passes, accounts-long, accounts-lent, accounts-members}
+use Rattle.validation.proofs.DayPasses.{sized, passes, accounts-lent, accounts-members}
 use Rattle.exposure.specs.declared.day.Figures.{Figures}
 use Rattle.exposure.specs.MemberCut.{Owners}
 use Rattle.exposure.specs.DayFigures.{Sizable, Grouped, FiguresAre}

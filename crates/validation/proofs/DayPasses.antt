@@ -19,9 +19,10 @@ use Rattle.methodology.specs.declared.DayTerms.{DayTerms}
 use Rattle.methodology.specs.Account.{DayInput, Account, nobody, headingAt, accountAt, accounts}
 use Rattle.methodology.specs.Refusals.{outside, countOutside, badInput, badDayNumber, firstBadHeading, lastMissing, limit, npvOutside, badAmount, accountRows, dayRows}
 use Rattle.methodology.proofs.Passed.{passed, passed-at, inside}
+use Rattle.methodology.proofs.RowLimits.{bad-heading-le, accounts-long}
 use Rattle.validation.specs.Slices.{headings, plainDay, none, Amounts, Lent}
 use Rattle.validation.specs.Passing.{Sized, Passes, Passed}
-use Rattle.validation.proofs.Headings.{headings-length, heading-at, headings-members, Fine, fine, all-good, bad-heading-le}
+use Rattle.validation.proofs.Headings.{headings-length, heading-at, headings-members, Fine, fine, all-good}
 use Rattle.validation.proofs.Amounts.{npv-limit, badAt, bad-at}
 
 -- row 4 of what the day brings
@@ -146,11 +147,6 @@ rows-leave o terms members numbers kinds npvs margins extras ek e4 e5 e6 =
       rising = record { least = λ i l. heading-fine i l .least; next = rises (o .n) members numbers kinds e5 };
       most = λ i l. heading-fine i l .most;
     }
-
--- a day has as many accounts as headings
-pub accounts-long : (k : ℕ) (d : DayInput) → length (accounts k d) ≡ length (d .headings)
-unfolding accounts
-accounts-long k d = table-length _ 0 (length (d .headings))
 
 -- a day that rows 4, 3, 5 and 6 let pass meets none of their conditions
 pub passes : (o : Opening) (last : ℕ) (d : DayInput) → dayRows o last d ≡ Clear → Passes o last d

@@ -1,8 +1,8 @@
 -- The rows of a day's accounts, each by the tests that a program makes, after those before it.
-use mathlib.Core.Path.{_≡_, _∙_}
+use mathlib.Core.Path.{_≡_}
 use mathlib.Core.Bool.{true, false}
 use mathlib.Core.List.{List}
-use Prim.Native.Nat.{ℕ, _+_, _*_, _≤_, _<_}
+use Prim.Native.Nat.{ℕ, _≤_, _<_}
 use native.Mathlib.Omega.{arith}
 use lib.IntN.{ℤ}
 use lib.ListN.{length}
@@ -15,7 +15,8 @@ use Rattle.methodology.specs.declared.Refusal.the-variants.{Clear, RowAt}
 use Rattle.methodology.specs.Account.{DayInput, accounts, nobody}
 use Rattle.methodology.specs.Refusals.{row_at_when_else_, firstBadHeading, lastMissing, badAmount, accountRows}
 use Rattle.validation.specs.Slices.{plainDay}
-use Rattle.validation.proofs.Headings.{headings-length, bad-heading-le}
+use Rattle.methodology.proofs.RowLimits.{bad-heading-le}
+use Rattle.validation.proofs.Headings.{headings-length}
 use Rattle.validation.proofs.DayPasses.{accounts-length}
 
 module _ (o : Opening) (d : DayInput) where

@@ -167,15 +167,6 @@ fine n prev h e =
       kind = not-less kindU (h .kind) (kind-above n h) a;
     }
 
-pub bad-heading-le : (n : ℕ) (prev : Heading) (hs : List Heading) → firstBadHeading n prev hs ≤ length hs
-unfolding firstBadHeading
-bad-heading-le n prev [] = omega arith
-bad-heading-le n prev (h ∷ hs) = by (badHeading n prev h) (bad-heading-le n h hs)
-  where
-    by : (t : Bool) → firstBadHeading n h hs ≤ length hs → cond t 0 (suc (firstBadHeading n h hs)) ≤ suc (length hs)
-    by true l = omega arith
-    by false l = omega arith
-
 -- the heading at i and the one before it
 pub all-good : (n : ℕ) (prev : Heading) (hs : List Heading) → firstBadHeading n prev hs ≡ length hs → (i : ℕ) → i < length hs → badHeading n (getD (prev ∷ hs) i nobody) (getD hs i nobody) ≡ false
 unfolding firstBadHeading

@@ -3,24 +3,13 @@ use mathlib.Core.Path.{subst}
 use Prim.Native.Nat.{_+_, _*_, _≤_, _<_, _^_}
 use lib.ListN.{length}
 use Rattle.numbers.specs.Lists.{Every}
-use Rattle.methodology.specs.Text.{bytes, dayLines, fundLines}
+use Rattle.methodology.specs.Text.{bytes, fundLines}
 use Rattle.report.proofs.Laws.{put-then}
 use Rattle.period.specs.declared.Outcome.{Outcome}
 use Rattle.answers.specs.Said.{widthSaid, sumsSaid, lineSaid, said}
 use borrow.Author.Needs.{needs}
 use Rattle.answers.proofs.say.Statement.{statement}
 use Rattle.answers.proofs.say.Tie as tie
-
--- on an accepted day: where its daily lines are put, where its day line is, where it is told, and the start
-module _ (c : tie.After-put-rows) where
-  abbrev headed : tie.After-put-line
-  headed = c .before .before .before .before .before
-
-  abbrev told : tie.After-outcome
-  told = headed .before .before .before .before .before
-
-  abbrev start : tie.Start
-  start = told .before .before .before .before
 
 enum-told : tie.Need-enum-told
 enum-told c = search needs
@@ -33,6 +22,19 @@ put-bytes-requires c κs = search needs
 
 enum-known-outcome : tie.Need-enum-known-outcome
 enum-known-outcome c = search needs
+
+put-day-requires : tie.Need-put-day-requires
+unfolding widthSaid sumsSaid
+put-day-requires c κs =
+    let s = c .before .before .before .before .before .before in
+    let a = s .args in
+    let is = c .before .before .outcome .given .1 in (
+      (s .pre .0 .0, subst (λ (o : Outcome). widthSaid o * a .n ≤ length (a .figures .now)) is (s .pre .0 .1)),
+      subst (λ (o : Outcome). Every (λ x. x < 2 ^ 64) (sumsSaid o (a .n) (a .figures .now))) is (s .pre .1 .0),
+    )
+
+enum-known-outcome-2 : tie.Need-enum-known-outcome-2
+enum-known-outcome-2 c = search needs
 
 slice-aggregate-put-line : tie.Need-slice-aggregate-put-line
 slice-aggregate-put-line c = search needs
@@ -49,49 +51,6 @@ slice-aggregate-put-rows c = search needs
 put-rows-requires : tie.Need-put-rows-requires
 unfolding widthSaid
 put-rows-requires c κs =
-    let s = c .before .before .before .before .before .before .before .before .before .before .before .before .before in
-    let room : 5 * s .args .n ≤ length (s .args .figures .now) = rw (c .before .before .before .before .before .before .before .before .before .outcome .given .1) at (s .pre .0 .1) in
-    search needs
-
-totals-requires : tie.Need-totals-requires
-unfolding widthSaid sumsSaid
-totals-requires c κs =
-    let lined = c .before .before in
-    let s = start lined in
-    let a = s .args in
-    let is = told lined .outcome .given .1 in
-    (
-      subst (λ (o : Outcome). widthSaid o * a .n ≤ length (a .figures .now)) is (s .pre .0 .1),
-      subst (λ (o : Outcome). Every (λ x. x < 2 ^ 64) (sumsSaid o (a .n) (a .figures .now))) is (s .pre .1 .0),
-    )
-
-slice-aggregate-put-line-3 : tie.Need-slice-aggregate-put-line-3
-slice-aggregate-put-line-3 c = search needs
-
-slice-aggregate-put-line-4 : tie.Need-slice-aggregate-put-line-4
-slice-aggregate-put-line-4 c = search needs
-
-put-line-requires-2 : tie.Need-put-line-requires-2
-put-line-requires-2 c κs = search needs
-
-enum-known-outcome-2 : tie.Need-enum-known-outcome-2
-enum-known-outcome-2 c = search needs
-
-slice-aggregate-put-line-5 : tie.Need-slice-aggregate-put-line-5
-slice-aggregate-put-line-5 c = search needs
-
-slice-aggregate-put-line-6 : tie.Need-slice-aggregate-put-line-6
-slice-aggregate-put-line-6 c = search needs
-
-put-line-requires-3 : tie.Need-put-line-requires-3
-put-line-requires-3 c κs = search needs
-
-slice-aggregate-put-rows-2 : tie.Need-slice-aggregate-put-rows-2
-slice-aggregate-put-rows-2 c = search needs
-
-put-rows-requires-2 : tie.Need-put-rows-requires-2
-unfolding widthSaid
-put-rows-requires-2 c κs =
     let s = c .before .before .before .before .before .before .before .before .before .before .before .before .before in
     let room : 3 * s .args .n ≤ length (s .args .figures .now) = rw (c .before .before .before .before .before .before .before .before .before .outcome2 .given .1) at (s .pre .0 .1) in
     search needs
@@ -133,19 +92,15 @@ same-length-2 : tie.Need-same-length-2
 same-length-2 c = search needs
 
 returns-2 : tie.Need-returns-2
-unfolding said dayLines bytes
-returns-2 c =
-    let under = c .before .before in
-    let summed = under .before .before .before .before in
-    let lined = summed .before .before .before in
-    rw (told lined .outcome .given .1) (put-then (put-then (headed lined .put-line .ensures) (lined .put-rows .ensures)) (rw (summed .totals .ensures) at (under .put-line2 .ensures)))
+unfolding said
+returns-2 c = rw (c .before .before .before .before .before .outcome .given .1) (c .before .before .put-day .ensures)
 
 same-length-3 : tie.Need-same-length-3
 same-length-3 c = search needs
 
 returns-3 : tie.Need-returns-3
 unfolding said fundLines bytes
-returns-3 c = rw (c .before .before .before .before .before .before .before .before .before .before .before .before .outcome2 .given .1) (put-then (c .before .before .before .before .before .before .before .put-line3 .ensures) (c .before .before .put-rows2 .ensures))
+returns-3 c = rw (c .before .before .before .before .before .before .before .before .before .before .before .before .outcome2 .given .1) (put-then (c .before .before .before .before .before .before .before .put-line .ensures) (c .before .before .put-rows .ensures))
 
 same-length-4 : tie.Need-same-length-4
 same-length-4 c = search needs
@@ -169,21 +124,13 @@ say-spec =
     slice-aggregate-put-bytes
     put-bytes-requires
     enum-known-outcome
+    put-day-requires
+    enum-known-outcome-2
     slice-aggregate-put-line
     slice-aggregate-put-line-2
     put-line-requires
     slice-aggregate-put-rows
     put-rows-requires
-    totals-requires
-    slice-aggregate-put-line-3
-    slice-aggregate-put-line-4
-    put-line-requires-2
-    enum-known-outcome-2
-    slice-aggregate-put-line-5
-    slice-aggregate-put-line-6
-    put-line-requires-3
-    slice-aggregate-put-rows-2
-    put-rows-requires-2
     enum-known-outcome-3
     put-refused-requires
     enum-known-outcome-4

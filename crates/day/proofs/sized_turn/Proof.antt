@@ -8,8 +8,8 @@ use lib.Seq.{length-take-le, take-at}
 use Rattle.numbers.specs.Lists.{Every}
 use Rattle.report.specs.Put.{Put}
 use Rattle.answers.specs.Said.{said, sumsSaid}
-use Rattle.answers.proofs.Outcomes.{OfDay, day-line, day-width, day-sums}
-use Rattle.day.proofs.Steps.{read-outcome, figures-fit, figures-cut, figures-wide, said-turn}
+use Rattle.answers.proofs.Outcomes.{OfDay, day-outcome, day-line, day-width, day-sums}
+use Rattle.day.proofs.Steps.{figures-fit, figures-cut, figures-wide, said-turn}
 use borrow.Author.Needs.{needs}
 use Rattle.day.proofs.sized_turn.Statement.{statement}
 use Rattle.day.proofs.sized_turn.Tie as tie
@@ -29,8 +29,8 @@ module _ (c : tie.After-size-day) where
   long : length figures ≡ 5 * n
   long = c .size-day .kept .1 .1 .1 .1 .1 .1 .0 ∙ length-take-le (5 * n) _ (omega (arith, start .pre .0 .1))
 
-  outcome : OfDay (start .args .count) (c .size-day .result .outcome)
-  outcome = read-outcome (start .args .count) (start .args .k) (start .args .terms) (start .args .columns .now) (start .args .npvs .now) (c .size-day .ensures)
+  outcome : OfDay (c .size-day .result .outcome)
+  outcome = day-outcome (c .size-day .ensures)
 
 mul-room : tie.Need-mul-room
 mul-room c = search needs
@@ -54,8 +54,8 @@ say-requires : tie.Need-say-requires
 say-requires c κs =
     let a = c .before .before .before .before in
     let s = start a in
-    let wide = day-width (s .args .count) (n a) (outcome a) in
-    let named = day-line (s .args .count) (s .args .from .line) (outcome a) in
+    let wide = day-width (n a) (outcome a) in
+    let named = day-line (s .args .from .line) (outcome a) in
     let few : n a ≤ 32 = s .pre .0 .1 in
     let sums = subst (λ (l : List ℕ). Every (λ x. x < 2 ^ 64) (sumsSaid (a .size-day .result .outcome) (n a) l)) (sym (take-at (figures a) _ _ (long a))) (day-sums (a .size-day .ensures) (n a) few) in
     ((few, figures-wide (figures a) _ _ (long a) _ wide), (sums, omega (arith, s .pre .0, named)))

@@ -27,15 +27,21 @@ module _ (c : tie.In-loop Inv-loop μ-loop) where
   abbrev m : ℕ
   m = l .loop .m
 
+  abbrev leftAfter : ℕ → ℕ
+  leftAfter = left (start .args .width) (start .args .n) (start .args .figures .now) (start .args .c)
+
+  next : m < start .args .n
+  next = omega (arith, c .loop-test .taken)
+
   abbrev at : ℕ
   at = start .args .width * m + start .args .c
 
   room : at < length (start .args .figures .now)
-  room = omega (arith, mul-le-mul-left (start .args .width) (c .loop-test .taken), start .pre .0)
+  room = omega (arith, mul-le-mul-left (start .args .width) next, start .pre .0)
 
-  added : l .loop .sum + getD (start .args .figures .now) at 0 + left (start .args .width) (start .args .n) (start .args .figures .now) (start .args .c) (m + 1)
-      ≡ columnSum (start .args .width) (start .args .n) (start .args .figures .now) (start .args .c)
-  added = omega (arith, left-next (start .args .width) (start .args .n) (start .args .figures .now) (start .args .c) (start .pre .0 .0) m (c .loop-test .taken), l .loop .inv .1)
+  added : l .loop .sum + getD (start .args .figures .now) at 0 + leftAfter (m + 1) ≡ columnSum (start .args .width) (start .args .n) (start .args .figures .now) (start .args .c)
+  added =
+      omega (arith, left-next (start .args .width) (start .args .n) (start .args .figures .now) (start .args .c) (start .pre .0 .0) m next, l .loop .inv .1)
 
 loop-holds : tie.Need-loop-holds Inv-loop μ-loop
 loop-holds c = (omega arith, zero-add _ ∙ left-first _ _ _ _)
@@ -65,7 +71,11 @@ loop-again : tie.Need-loop-again Inv-loop μ-loop
 loop-again c = (omega arith, added (c .before))
 
 returns : tie.Need-returns Inv-loop μ-loop
-returns c = omega (arith, c .before .loop .inv .1, left-none (c .before .before .args .width) (c .before .before .args .n) (c .before .before .args .figures .now) (c .before .before .args .c) (c .before .loop .m) (c .loop-test .left))
+returns c =
+    let l = c .before in
+    let a = l .before .args in
+    let all : a .n ≤ l .loop .m = omega (arith, c .loop-test .left) in
+    omega (arith, l .loop .inv .1, left-none (a .width) (a .n) (a .figures .now) (a .c) (l .loop .m) all)
 
 pub column-sum-spec : {M : Type 1} → statement M
 column-sum-spec =

@@ -1,5 +1,4 @@
 -- `totals` meets its contract: the five columns, one after another.
-use mathlib.Core.Path.{_≡_, ap₂}
 use native.Mathlib.Omega.{arith}
 use Rattle.methodology.specs.Text.{totals}
 use Rattle.answers.proofs.totals.totals.Statement.{statement}

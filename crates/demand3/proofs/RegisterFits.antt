@@ -1,0 +1,69 @@
+-- What the register says of an accepted call fits 64 bits: such a call can be made, and what the program returns and writes does.
+use mathlib.Core.Path.{_≡_, sym, ap, subst, _∙_}
+use Prim.Native.Nat.{ℕ}
+use native.Mathlib.Omega.{arith}
+use lib.ListN.{replicate, length-replicate}
+use Rattle.numbers.specs.Lists.{Every}
+use Rattle.numbers.proofs.Lists.{by-index, replicate-at, mem-every}
+use Rattle.methodology.specs.declared.Refusal.the-variants.{Clear}
+use Rattle.methodology.specs.declared.Opening.{Opening}
+use Rattle.methodology.specs.Account.{DayInput, accounts}
+use Rattle.methodology.specs.Day.{dailies}
+use Rattle.methodology.specs.Register.{Call, Register, start, refusal, accept, step, returned, written, answer, buffer}
+use Rattle.methodology.proofs.Passed.{step-clear}
+use Rattle.fund.proofs.Dailies.{Few}
+use Rattle.period.specs.declared.Period.{Period}
+use Rattle.period.specs.Follows.{Follows}
+use Rattle.period.proofs.Sizing.{passes-all, written-few}
+use Rattle.period.proofs.Simulation.{starts, held-by, day-row}
+use Rattle.demand3.specs.Made.{Asked, lent, callOf}
+use Rattle.demand3.specs.Demand3.{Fits64, Narrow}
+use Rattle.demand3.proofs.EveryList.{agrees}
+use Rattle.demand3.proofs.Fitting.{narrow-fresh, fits, makes}
+
+-- a register that calls lead to, with the period that they leave
+pub record Kept (g : Register) : Type 0 where
+  pub period : Period
+  pub follows : Follows g period
+  pub narrow : Narrow period
+
+pub kept-first : Kept start
+kept-first = record { period = _; follows = starts; narrow = narrow-fresh }
+
+pub record AcceptedFits (g : Register) (c : Call) : Type 0 where
+  pub kept : Kept (step g c)
+  pub returned-fits : Every Fits64 (returned (step g c) c)
+  pub written-fits : Every Fits64 (written (step g c) c)
+
+accepted-fits : {g : Register} → Kept g → (a : Asked) → Every Fits64 (lent a) → refusal g (callOf a) ≡ Clear → AcceptedFits g (callOf a)
+unfolding answer buffer
+accepted-fits {g} k a free clear =
+    let (r, after, m) = makes (k .period) a in
+    let f = fits (k .narrow) a r after m in
+    let (follows, agreed) = agrees (k .follows) a r after m in
+    record {
+      kept = record { period = r .period; follows = follows; narrow = f .period };
+      returned-fits = rw (agreed .answer, clear) at (f .answer);
+      written-fits = rw (agreed .buffer, clear) at (f .buffer free);
+    }
+
+-- zeros for a call to write over
+zeros-fit : (room : ℕ) → Every Fits64 (replicate room 0)
+zeros-fit room = mem-every Fits64 (replicate room 0) (by-index Fits64 (replicate room 0) 0 (λ i h. omega (arith, replicate-at {A = ℕ} room i 0)))
+
+pub accepts : {g : Register} → Kept g → (c : Call) → refusal g c ≡ Clear → AcceptedFits g c
+accepts k (Call.opening o) = accepted-fits k (Asked.opening o) tt
+accepts {g} k (Call.day d room) =
+    subst (λ (r : ℕ). refusal g (Call.day d r) ≡ Clear → AcceptedFits g (Call.day d r)) (length-replicate room 0)
+    (accepted-fits k (Asked.day d (replicate room 0)) (zeros-fit room))
+accepts {g} k (Call.closing room) =
+    subst (λ (r : ℕ). refusal g (Call.closing r) ≡ Clear → AcceptedFits g (Call.closing r)) (length-replicate room 0)
+    (accepted-fits k (Asked.closing (replicate room 0)) (zeros-fit room))
+
+-- the numbers that a day writes are so few that sums of them fit too
+pub writes-few : {g : Register} → Kept g → (d : DayInput) (room : ℕ) → refusal g (Call.day d room) ≡ Clear → Every Few (written (step g (Call.day d room)) (Call.day d room))
+unfolding written accept
+writes-few {g} k d room clear =
+    let (s, positive) = passes-all (k .period) d room (day-row (k .follows) d room ∙ clear) in
+    let held = held-by (k .follows) ∙ ap (λ (g : Register). g .held) (sym (step-clear g (Call.day d room) clear)) in
+    subst (λ (o : Opening). Every Few (dailies o (accounts (o .k) d))) held (written-few s positive)
