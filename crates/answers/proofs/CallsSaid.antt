@@ -88,7 +88,8 @@ module _ (n k : ℕ) (g : Register) (period : Period) (h : InStep g period n k) 
     written-is = follows .2 ∙ rw c
 
     lines-are : (total max : ℕ) → returned (step g call) call ≡ total ∷ max ∷ []
-        → dayLines (d .terms .number) (step g call .held .n) (returned (step g call) call) (written (step g call) call) ≡ dayLines (d .terms .number) n (total ∷ max ∷ []) figures
+        → dayLines (d .terms .number) (step g call .held .n) (returned (step g call) call) (written (step g call) call)
+        ≡ dayLines (d .terms .number) n (total ∷ max ∷ []) figures
     lines-are total max e = rw (e, ← written-is, still-in-step .members)
 
   pub day-said : (rest : Expected → List ℕ) → followedBy (Text·sized (refusal g call) g d line) rest

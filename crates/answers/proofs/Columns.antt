@@ -56,8 +56,9 @@ AtMost most x = x ≤ most
 column-few : (width n c most : ℕ) (out : List ℕ) → Every (AtMost most) out → columnSum width n out c ≤ n * most
 unfolding columnSum
 column-few width n c most out h =
-    let each : (m : ℕ) → getD (stretch width m out) c 0 ≤ most = λ m. every-at (AtMost most) (stretch width m out) 0 (omega arith) (every-take (AtMost most) width (drop (width * (m - 1)) out) (every-drop (AtMost most) (width * (m - 1)) out h)) c in
-    rw (range-length 1 n) at (Σ-bound (members n) _ most (λ m i. each m))
+    let few = AtMost most in
+    let part : (m : ℕ) → Every few (stretch width m out) = λ m. every-take few width _ (every-drop few (width * (m - 1)) out h) in
+    rw (range-length 1 n) at (Σ-bound (members n) _ most (λ m i. every-at few (stretch width m out) 0 (omega arith) (part m) c))
 
 pub totals-fit : (n : ℕ) (out : List ℕ) → n ≤ 32 → Every Few out → Every (λ x. x < 2 ^ 64) (totals n out)
 unfolding totals

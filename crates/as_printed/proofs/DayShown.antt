@@ -31,12 +31,14 @@ module _ (number n T Max : ℕ) (out : List ℕ) where
   abbrev asRead : DayRead
   asRead = record { number = number; total = T; max = Max; records = map (ofMember 5 out) (members n); sums = totals n out }
 
-  pub day-shows : Every Fits64 (number ∷ T ∷ Max ∷ []) → Every Fits64 out → Every Fits64 (totals n out) → n ≤ 32 → Shows (dayLines number n (T ∷ Max ∷ []) out) (dayRead asRead)
+  pub day-shows : Every Fits64 (number ∷ T ∷ Max ∷ []) → Every Fits64 out → Every Fits64 (totals n out) → n ≤ 32
+      → Shows (dayLines number n (T ∷ Max ∷ []) out) (dayRead asRead)
   unfolding dayLines bytes any
   day-shows head fit sums few =
       let lines = sym (map-map (worded (bytes "daily")) (ofMember 5 out) (members n)) in
       let records = subst (Shows (rows (bytes "daily") 5 n out)) lines (shows-rows (bytes "daily") 5 n out (refl, refl) few fit) in
-      shows-then (shows-then (shows-line (bytes "day") (number ∷ T ∷ Max ∷ []) (refl, refl) head) records) (shows-line (bytes "total") (totals n out) (refl, refl) sums)
+      let day-line = shows-line (bytes "day") (number ∷ T ∷ Max ∷ []) (refl, refl) head in
+      shows-then (shows-then day-line records) (shows-line (bytes "total") (totals n out) (refl, refl) sums)
 
   column-read : (c : ℕ) → columnSum 5 n out c ≡ Σ (map (ofMember 5 out) (members n)) (λ numbers. getD numbers (suc c) 0)
   unfolding columnSum

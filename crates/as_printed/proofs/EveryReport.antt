@@ -90,7 +90,8 @@ rest-back {g = g} near k (a-fund clear) =
     let call = closingCall g in
     let after = step g call in
     let fit = accepts k call clear in
-    ends-so (fund-shows (after .held .n) (returned after call) (written after call) (fit .returned-fits) (fit .written-fits) (fit .kept .follows .good .members-few))
+    let few = fit .kept .follows .good .members-few in
+    ends-so (fund-shows (after .held .n) (returned after call) (written after call) (fit .returned-fits) (fit .written-fits) few)
     (fund-other (after .held .n) (returned after call) (written after call))
 rest-back near k (a-refusal number line h in-text) = refused-back number line h (omega arith)
 

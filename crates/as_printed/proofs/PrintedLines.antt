@@ -58,7 +58,9 @@ line-fields w (x ∷ xs) h =
 line-ended : (w numbers rest : List ℕ) → Without LF w → split LF (printed w numbers ++ rest) ≡ lineWith w numbers ∷ split LF rest
 unfolding printed
 line-ended w numbers rest h =
-    let no-LF = every-append (λ (x : ℕ). eqb x LF ≡ false) w (tabbed numbers) h (every-flatMap (λ (x : ℕ). eqb x LF ≡ false) (λ x. tab ∷ decimal x) numbers (λ x i. (refl, decimal-without LF x (omega arith)))) in
+    let other : ℕ → Type 0 = λ x. eqb x LF ≡ false in
+    let in-fields : Without LF (tabbed numbers) = every-flatMap other (λ x. tab ∷ decimal x) numbers (λ x i. (refl, decimal-without LF x (omega arith))) in
+    let no-LF = every-append other w (tabbed numbers) h in-fields in
     let parted : printed w numbers ++ rest ≡ lineWith w numbers ++ LF ∷ rest = rw append-assoc in
     ap (split LF) parted ∙ ended LF (lineWith w numbers) rest no-LF
 
@@ -95,8 +97,11 @@ shows-line w numbers word fit =
 pub shows-then : {s t : List ℕ} {ls ms : List Line} → Shows s ls → Shows t ms → Shows (s ++ t) (ls ++ ms)
 shows-then {s} {t} {ls} {ms} a b =
     record {
-      are = λ rest. ap linesOf (append-assoc s t rest) ∙ a .are (t ++ rest) ∙ ap (λ (l : List Line). ls ++ l) (b .are rest) ∙ sym (append-assoc ls ms (linesOf rest));
-      decimal-too = λ rest h. subst (λ (l : List ℕ). Every Decimal (split LF l)) (sym (append-assoc s t rest)) (a .decimal-too (t ++ rest) (b .decimal-too rest h));
+      are =
+          λ rest.
+          ap linesOf (append-assoc s t rest) ∙ a .are (t ++ rest) ∙ ap (λ (l : List Line). ls ++ l) (b .are rest)
+          ∙ sym (append-assoc ls ms (linesOf rest));
+      decimal-too = λ rest h. rw append-assoc (a .decimal-too (t ++ rest) (b .decimal-too rest h));
     }
 
 -- a line for each x

@@ -29,7 +29,9 @@ value-back : (k n : ℕ) → n < 10 ^ suc k → valueFrom 0 (digits k n) ≡ n
 unfolding digits valueFrom
 value-back zero n h = omega arith
 value-back (suc k) n h =
-    let tens : valueFrom 0 (front k n) ≡ n / 10 = by-test (λ (s : List ℕ). valueFrom 0 s ≡ n / 10) (ltb n 10) [] (digits k (n / 10)) (λ e. omega (arith, ltb-true n 10 e)) (λ e. value-back k (n / 10) (omega (arith, pow-suc 10 (suc k)))) in
+    let tens : valueFrom 0 (front k n) ≡ n / 10 =
+    by-test (λ (s : List ℕ). valueFrom 0 s ≡ n / 10) (ltb n 10) [] (digits k (n / 10)) (λ e. omega (arith, ltb-true n 10 e))
+    (λ e. value-back k (n / 10) (omega (arith, pow-suc 10 (suc k)))) in
     omega (arith, value-more 0 (front k n) (48 + n % 10))
 
 pub reads-back : (x : ℕ) → x < 10 ^ 20 → valueFrom 0 (decimal x) ≡ x
@@ -58,7 +60,9 @@ unfolding digits
 few-digits zero j n h = omega arith
 few-digits (suc k) zero n h = rw (lt-ltb n 10 (omega arith)) (omega arith)
 few-digits (suc k) (suc j) n h =
-    let less = by-test (λ (s : List ℕ). length s ≤ suc j) (ltb n 10) [] (digits k (n / 10)) (λ e. omega arith) (λ e. few-digits k j (n / 10) (omega (arith, pow-suc 10 (suc j)))) in
+    let less : length (front k n) ≤ suc j =
+    by-test (λ (s : List ℕ). length s ≤ suc j) (ltb n 10) [] (digits k (n / 10)) (λ e. omega arith)
+    (λ e. few-digits k j (n / 10) (omega (arith, pow-suc 10 (suc j)))) in
     omega (arith, length-append (front k n) ((48 + n % 10) ∷ []))
 
 -- and the first is no 0, but for the number 0
@@ -67,7 +71,8 @@ unfolding digits
 first-digit zero n p h = omega arith
 first-digit (suc k) n p h =
     by-test (λ (s : List ℕ). 48 < getD (s ++ ((48 + n % 10) ∷ [])) 0 0) (ltb n 10) [] (digits k (n / 10)) (λ e. omega (arith, ltb-true n 10 e))
-    (λ e. rw (List·getD-append (digits k (n / 10)) ((48 + n % 10) ∷ []) 0 0 (some-digits k (n / 10))) (first-digit k (n / 10) (omega (arith, ltb-false n 10 e)) (omega (arith, pow-suc 10 (suc k)))))
+    (λ e. rw (List·getD-append (digits k (n / 10)) ((48 + n % 10) ∷ []) 0 0 (some-digits k (n / 10)))
+    (first-digit k (n / 10) (omega (arith, ltb-false n 10 e)) (omega (arith, pow-suc 10 (suc k)))))
 
 no-leading-zero : (x : ℕ) → x < 10 ^ 20 → (eqb (getD (decimal x) 0 0) 48 && ltb 1 (length (decimal x))) ≡ false
 unfolding digits
@@ -77,5 +82,9 @@ no-leading-zero (suc x) h = rw (ne-eqb (getD (decimal (suc x)) 0 0) 48 (λ e. om
 pub reads-back-as-text : (x : ℕ) → x < 10 ^ 13 → numberOf (decimal x) ≡ some x
 unfolding numberOf
 reads-back-as-text x h =
-    let odd : any (λ b. not (isDigit b)) (decimal x) ≡ false = none-any _ (decimal x) (λ b i. let d = every-mem Digit (decimal x) (all-digits 19 x) b i in rw (le-ltb b 48 (d .0), le-ltb 57 b (d .1))) in
-    rw (le-ltb (length (decimal x)) 1 (some-digits 19 x), le-ltb 13 (length (decimal x)) (few-digits 19 12 x h), odd, no-leading-zero x (omega arith), reads-back x (omega arith))
+    let least = le-ltb (length (decimal x)) 1 (some-digits 19 x) in
+    let most = le-ltb 13 (length (decimal x)) (few-digits 19 12 x h) in
+    let digit = every-mem Digit (decimal x) (all-digits 19 x) in
+    let odd : any (λ b. not (isDigit b)) (decimal x) ≡ false =
+    none-any _ (decimal x) (λ b i. let d = digit b i in rw (le-ltb b 48 (d .0), le-ltb 57 b (d .1))) in
+    rw (least, most, odd, no-leading-zero x (omega arith), reads-back x (omega arith))

@@ -64,7 +64,8 @@ indexed P xs h = mem-every P xs (by-index P xs 0 (λ i l. h i))
 
 -- ---- a day that is accepted
 
-dailies-fit : (p : Period) (d : DayInput) (room : ℕ) → Admits p d room × (0 < total (heldBy p) (accountsBrought p d)) → Every Fits64 (dailies (heldBy p) (accountsBrought p d))
+dailies-fit : (p : Period) (d : DayInput) (room : ℕ) → Admits p d room × (0 < total (heldBy p) (accountsBrought p d))
+    → Every Fits64 (dailies (heldBy p) (accountsBrought p d))
 dailies-fit p d room (s, t) = every-weaken Few Fits64 (λ x few. omega arith) (dailies (heldBy p) (accountsBrought p d)) (written-few s t)
 
 day-figures-fit : (p : Period) (d : DayInput) (room : ℕ) → Admits p d room × (0 < total (heldBy p) (accountsBrought p d)) → Every Fits64 (total (heldBy p) (accountsBrought p d) ∷ maxEul (heldBy p) (accountsBrought p d) ∷ [])

@@ -61,7 +61,8 @@ accepts {g} k (Call.closing room) =
     (accepted-fits k (Asked.closing (replicate room 0)) (zeros-fit room))
 
 -- the numbers that a day writes are so few that sums of them fit too
-pub writes-few : {g : Register} → Kept g → (d : DayInput) (room : ℕ) → refusal g (Call.day d room) ≡ Clear → Every Few (written (step g (Call.day d room)) (Call.day d room))
+pub writes-few : {g : Register} → Kept g → (d : DayInput) (room : ℕ) → refusal g (Call.day d room) ≡ Clear
+    → Every Few (written (step g (Call.day d room)) (Call.day d room))
 unfolding written accept
 writes-few {g} k d room clear =
     let (s, positive) = passes-all (k .period) d room (day-row (k .follows) d room ∙ clear) in

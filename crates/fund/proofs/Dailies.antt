@@ -37,7 +37,8 @@ five-few : (e top t : ℕ) → Loss e t → top ≤ greatestTotal → Every Few 
 unfolding five share value reserve estimate
 five-few e top t l high =
     let cents : (f : ℕ) → roundDiv (f * e * top) t ≤ f * top = λ f. cents-le f e top t (l .positive) (l .part) in
-    (omega (arith, l .part, l .bounded), (omega (arith, share-le scale e t (l .positive) (l .part)), (omega (arith, cents 100), (omega (arith, cents 110), (omega (arith, cents 220), tt)))))
+    let shared = share-le scale e t (l .positive) (l .part) in
+    (omega (arith, l .part, l .bounded), (omega arith, (omega (arith, cents 100), (omega (arith, cents 110), (omega (arith, cents 220), tt)))))
 
 module _ (o : Opening) (accts : List Account) where
   pub dailies-few : ((m : ℕ) → m ∈ members (o .n) → Loss (loss (o .k) accts m) (total o accts)) → maxEul o accts ≤ greatestTotal → Every Few (dailies o accts)

@@ -49,7 +49,8 @@ pub data Rest (last : ℕ) : Register → List ℕ → Type 0 where
 
 -- a report of n members: it is refused before a period is open, or goes on from there
 pub data Report (n last : ℕ) : List ℕ → Type 0 where
-  begun : {s : List ℕ} (o : Opening) → o .n ≡ n → o .n ≤ 32 → refusal start (Call.opening o) ≡ Clear → Rest last (step start (Call.opening o)) s → Report n last s
+  begun : {s : List ℕ} (o : Opening) → o .n ≡ n → o .n ≤ 32 → refusal start (Call.opening o) ≡ Clear
+      → Rest last (step start (Call.opening o)) s → Report n last s
   not-begun : (number line : ℕ) → number ≤ 9 → line ≤ last → Report n last (refusedLine number line)
 
 -- a line's first number, where it is read
@@ -107,8 +108,9 @@ module _ (n last : ℕ) where
     by-member o (some ns) r =
         let P = Prints (member o) in
         let o′ = withGroups o (o .groups ++ (getD ns 1 0 ∷ [])) in
+        let last-one = by-opened _ o′ refl (refusal-few start (Call.opening o′)) r in
         by-test P (eqb (getD ns 0 0) (length (o′ .groups))) _ _
-        (λ e. by-test P (eqb (length (o′ .groups)) (o .n)) _ _ (λ all. by-opened _ o′ refl (refusal-few start (Call.opening o′)) r) (λ more. goes (member o′) r))
+        (λ e. by-test P (eqb (length (o′ .groups)) (o .n)) _ _ (λ all. last-one) (λ more. goes (member o′) r))
         (λ e. line-9 (member o))
 
     by-day : (g : Register) (read : Option (List ℕ)) → Prints (day g) (readDay g i read)
@@ -123,7 +125,8 @@ module _ (n last : ℕ) where
     by-sized (Row number) g d at e few h = a-refusal number at few (omega arith)
     by-sized (RowAt number index) g d at e few h = a-refusal number (at + 1 + index) (few .0) (omega (arith, few .1))
 
-    by-account : (g : Register) (d : DayInput) (at count used : ℕ) (read : Option AccountLine) → at + 257 ≤ last → Prints (day g) (readAccount g d at count used i read)
+    by-account : (g : Register) (d : DayInput) (at count used : ℕ) (read : Option AccountLine) → at + 257 ≤ last
+        → Prints (day g) (readAccount g d at count used i read)
     unfolding readAccount followedBy
     by-account g d at count used none h = line-9 (day g)
     by-account g d at count used (some a) h =
@@ -180,8 +183,8 @@ module _ (n last : ℕ) where
 also-first : (f : List ℕ) (xs : Option (List ℕ)) → FirstIs (valueFrom 0 f) (also (numberOf f) xs)
 unfolding numberOf also
 also-first f xs =
-    by-test (λ (x : Option ℕ). FirstIs (valueFrom 0 f) (also x xs)) (outside 1 13 (length f) || any (λ b. not (isDigit b)) f || eqb (getD f 0 0) 48 && ltb 1 (length f))
-    none (some (valueFrom 0 f)) (λ e. tt) (λ e. by xs)
+    let odd = outside 1 13 (length f) || any (λ b. not (isDigit b)) f || eqb (getD f 0 0) 48 && ltb 1 (length f) in
+    by-test (λ (x : Option ℕ). FirstIs (valueFrom 0 f) (also x xs)) odd none (some (valueFrom 0 f)) (λ e. tt) (λ e. by xs)
   where
     by : (xs : Option (List ℕ)) → FirstIs (valueFrom 0 f) (also (some (valueFrom 0 f)) xs)
     by none = tt
@@ -197,7 +200,8 @@ unfolding numbersAfter
 numbers-first word count l =
     let fs = fields l in
     let first = rw (getD-drop 1 fs 0 []) at (every-first (drop 1 fs)) in
-    by-test (FirstIs (valueFrom 0 (getD fs 1 []))) (same (getD fs 0 []) word && eqb (length fs) (count + 1)) (everyField numberOf (drop 1 fs)) none (λ e. first) (λ e. tt)
+    let formed = same (getD fs 0 []) word && eqb (length fs) (count + 1) in
+    by-test (FirstIs (valueFrom 0 (getD fs 1 []))) formed (everyField numberOf (drop 1 fs)) none (λ e. first) (λ e. tt)
 
 -- ---- the whole report
 
@@ -209,7 +213,8 @@ enough = 2162688
 abbrev pub lastLine : ℕ
 lastLine = enough + 258
 
-first-line : (l : List ℕ) (ls : List (List ℕ)) → length ls + 258 ≤ lastLine → Report (valueFrom 0 (getD (fields l) 1 [])) lastLine (reportFrom 1 (l ∷ ls) period)
+first-line : (l : List ℕ) (ls : List (List ℕ)) → length ls + 258 ≤ lastLine
+    → Report (valueFrom 0 (getD (fields l) 1 [])) lastLine (reportFrom 1 (l ∷ ls) period)
 unfolding reportFrom atEnd readLine
 first-line l [] near = not-begun 9 1 (omega arith) (omega arith)
 first-line l (m ∷ ls) near =
@@ -228,7 +233,8 @@ unfolding split
 split-few b [] = omega arith
 split-few b (x ∷ s) =
     let rest = split-few b s in
-    by-test (λ (ps : List (List ℕ)). length ps ≤ suc (suc (length s))) (eqb x b) ([] ∷ split b s) (onto x (split b s)) (λ e. omega arith) (λ e. omega (arith, onto-few x (split b s)))
+    by-test (λ (ps : List (List ℕ)). length ps ≤ suc (suc (length s))) (eqb x b) ([] ∷ split b s) (onto x (split b s)) (λ e. omega arith)
+    (λ e. omega (arith, onto-few x (split b s)))
 
 enough-for : (text : List ℕ) → length text ≤ enough → Report (membersIn text) lastLine (reportOf text)
 unfolding reportOf
@@ -247,7 +253,8 @@ reports text = by (ltb enough (length text)) (ltb (indexOf LF text) enough) refl
     by false near p q = enough-for text (ltb-false enough (length text) p)
     by true true p q =
         let same-line = before-same enough text (ltb-true enough (length text) p) (ltb-true (indexOf LF text) enough q) in
-        let first : getD (split LF (take enough text)) 0 [] ≡ getD (split LF text) 0 [] = rw (split-first LF (take enough text), split-first LF text) same-line in
+        let first : getD (split LF (take enough text)) 0 [] ≡ getD (split LF text) 0 [] =
+        rw (split-first LF (take enough text), split-first LF text) same-line in
         subst (λ (l : List ℕ). Report (valueFrom 0 (getD (fields l) 1 [])) lastLine (reportOf text)) first whole
     by true false p q =
         rw (too-long 1 text period (omega (arith, ltb-false (indexOf LF text) enough q))) (not-begun 9 1 (omega arith) (omega arith))

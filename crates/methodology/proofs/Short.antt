@@ -61,13 +61,15 @@ day-short number n figures out two few =
     let lines = rows (bytes "daily") 5 n out in
     let under = printed (bytes "total") (totals n out) in
     let whole : length (dayLines number n figures out) ≡ length (head ++ lines) + length under = length-append (head ++ lines) under in
-    omega (arith, length-append head lines, printed-short (bytes "day") (number ∷ figures), rows-short (bytes "daily") 5 n out (omega arith), printed-short (bytes "total") (totals n out))
+    let daily = rows-short (bytes "daily") 5 n out (omega arith) in
+    omega (arith, length-append head lines, printed-short (bytes "day") (number ∷ figures), printed-short (bytes "total") (totals n out))
 
 fund-short : (n : ℕ) (figures out : List ℕ) → length figures ≡ 3 → n ≤ 32 → length (fundLines n figures out) ≤ aDay
 unfolding fundLines bytes
 fund-short n figures out three few =
+    let head = printed (bytes "fund") figures in
     let lines = rows (bytes "contribution") 3 n out in
-    let whole : length (fundLines n figures out) ≡ length (printed (bytes "fund") figures) + length lines = length-append (printed (bytes "fund") figures) lines in
+    let whole : length (fundLines n figures out) ≡ length head + length lines = length-append head lines in
     omega (arith, printed-short (bytes "fund") figures, rows-short (bytes "contribution") 3 n out (omega arith))
 
 refused-short : (number line : ℕ) → length (refusedLine number line) ≤ aDay

@@ -100,7 +100,11 @@ same-length-3 c = search needs
 
 returns-3 : tie.Need-returns-3
 unfolding said fundLines bytes
-returns-3 c = rw (c .before .before .before .before .before .before .before .before .before .before .before .before .outcome2 .given .1) (put-then (c .before .before .before .before .before .before .before .put-line .ensures) (c .before .before .put-rows .ensures))
+returns-3 c =
+    let contributions = c .before .before in
+    let fund = contributions .before .before .before .before .before in
+    let told = fund .before .before .before .before .before in
+    rw (told .outcome2 .given .1) (put-then (fund .put-line .ensures) (contributions .put-rows .ensures))
 
 same-length-4 : tie.Need-same-length-4
 same-length-4 c = search needs

@@ -57,7 +57,8 @@ say-requires c κs =
     let wide = day-width (n a) (outcome a) in
     let named = day-line (s .args .from .line) (outcome a) in
     let few : n a ≤ 32 = s .pre .0 .1 in
-    let sums = subst (λ (l : List ℕ). Every (λ x. x < 2 ^ 64) (sumsSaid (a .size-day .result .outcome) (n a) l)) (sym (take-at (figures a) _ _ (long a))) (day-sums (a .size-day .ensures) (n a) few) in
+    let fit : List ℕ → Type 0 = λ l. Every (λ x. x < 2 ^ 64) (sumsSaid (a .size-day .result .outcome) (n a) l) in
+    let sums = subst fit (sym (take-at (figures a) _ _ (long a))) (day-sums (a .size-day .ensures) (n a) few) in
     ((few, figures-wide (figures a) _ _ (long a) _ wide), (sums, omega (arith, s .pre .0, named)))
 
 add-t23 : tie.Need-add-t23

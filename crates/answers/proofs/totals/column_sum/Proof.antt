@@ -39,7 +39,8 @@ module _ (c : tie.In-loop Inv-loop μ-loop) where
   room : at < length (start .args .figures .now)
   room = omega (arith, mul-le-mul-left (start .args .width) next, start .pre .0)
 
-  added : l .loop .sum + getD (start .args .figures .now) at 0 + leftAfter (m + 1) ≡ columnSum (start .args .width) (start .args .n) (start .args .figures .now) (start .args .c)
+  added : l .loop .sum + getD (start .args .figures .now) at 0 + leftAfter (m + 1)
+      ≡ columnSum (start .args .width) (start .args .n) (start .args .figures .now) (start .args .c)
   added =
       omega (arith, left-next (start .args .width) (start .args .n) (start .args .figures .now) (start .args .c) (start .pre .0 .0) m next, l .loop .inv .1)
 

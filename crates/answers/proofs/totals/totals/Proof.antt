@@ -26,7 +26,12 @@ column-sum-requires-5 c κs = let p = c .before .before .before .before .before 
 
 returns : tie.Need-returns
 unfolding totals
-returns c = rw (c .column-sum5 .ensures, c .before .column-sum4 .ensures, c .before .before .column-sum3 .ensures, c .before .before .before .column-sum2 .ensures, c .before .before .before .before .column-sum .ensures)
+returns c =
+    let fourth = c .before in
+    let third = fourth .before in
+    let second = third .before in
+    let first = second .before in
+    rw (c .column-sum5 .ensures, fourth .column-sum4 .ensures, third .column-sum3 .ensures, second .column-sum2 .ensures, first .column-sum .ensures)
 
 pub totals-spec : {M : Type 1} → statement M
 totals-spec =

@@ -14,7 +14,8 @@ say-requires c κs =
     let called = c .before .before .before .before .closing in
     let s = c .before .before .before .before .before .before .before .before .before in
     let o = closing-outcome (called .ensures) in
-    ((s .pre .0, omega (arith, called .kept, s .pre .1, closing-width (s .args .n) o)), (closing-sums (s .args .n) _ o, omega (arith, closing-line (s .args .from .line) o)))
+    let named = closing-line (s .args .from .line) o in
+    ((s .pre .0, omega (arith, called .kept, s .pre .1, closing-width (s .args .n) o)), (closing-sums (s .args .n) _ o, omega arith))
 
 same-length : tie.Need-same-length
 same-length c = search needs
