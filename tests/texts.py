@@ -266,7 +266,10 @@ WORKED_ONLY = [
     ("100000000000x for a number", one_house(house(1, "100000000000x"))),
     ("scenario 16 alone, group 32, day 31", month(16, [32, 32], (31, acct(1, 0, "H", 5, 0, 0, *[5] * 15, 2),
                                                                  acct(2, 0, "H", 9, 0, 0, *[9] * 15, 5)))),
-    ("member 32", month(1, [0] * 30 + [32, 32], (31, *(house(i, 1) for i in range(1, 32)), house(32, 9)))),
+    ("32 members, each with a loss of its own", month(1, [0] * 30 + [32, 32], (31, *(house(i, i * i) for i in range(1, 33))))),
+    ("31 days, each with a loss of its own, the first of a dollar", month(1, [0], *((i, house(1, i * i)) for i in range(1, 32)))),
+    ("two days of one Max EUL and unlike T", month(1, [0, 0], (1, house(1, 10), house(2, 0)), (2, house(1, 10), house(2, 5)))),
+    ("sums of 18 digits", month(1, [0], (3, house(1, 1), *(acct(1, i, "U", 10**12 - 7 * i, 0, 0, 3 * i - 10**12) for i in range(1, 161))))),
     ("5 at account 255", month(1, [0], (1, house(1, 1), *(acct(1, i, "U", 1, 0, 0, 0) for i in [*range(1, 255), 65536])))),
     ("a period line of a field too few", example((1, fewer(period(2, 1))))),
     ("a period line of its word alone", example((1, "period"))),
@@ -419,11 +422,11 @@ TOTALS = [
     ("one member, clients of every kind, on three days of a few dollars", stored("totals-13")),
     ("a day whose cents are all 0, between two that are not", stored("totals-14")),
     ("four members of one group that lose a dollar each on six days", stored("totals-15")),
-    ("a loss of a dollar on the second of three days, a half cent below the minimum", stored("totals-16")),
+    ("a loss of a dollar on the second of three days, and a charge a dollar below the minimum", stored("totals-16")),
     ("half cents: a value a cent above, a reserve a cent below, an estimate a cent above", stored("totals-17")),
     ("one member with thirteen clients", stored("totals-18")),
     ("two days with their totals; 5 on a third for kind HH", stored("totals-19")),
-    ("a total at the limit of an amount; 9 for a line after it", stored("totals-20")),
+    ("a total of three times the limit of an amount, less a dollar; 9 for a line after it", stored("totals-20")),
     ("two days with their totals; 5 on a third for an account's number that falls", stored("totals-21")),
     ("two members of one group, days of one to three dollars", stored("totals-22")),
     ("a loss of 7 beside a large one, once more", stored("totals-23")),
@@ -449,5 +452,6 @@ TOTALS = [
     ("two days with their totals; 9 on a third for an empty extra", stored("totals-43")),
 ]
 
-WORKED = BOTH + WORKED_ONLY + VALID[:5] + VALID[6:]     # the longest of them is run by `vectors` alone
+# Of those drawn at random the longest are run by `vectors` alone.
+WORKED = BOTH + WORKED_ONLY + VALID[:5] + VALID[6:] + [TOTALS[i] for i in (1, 6, 12, 14)]
 VECTORS = BOTH + VALID + VECTORS_ONLY + TOTALS

@@ -172,7 +172,7 @@ Text.dayLines | (totals n out) | (totals n (take 5 out))
 Text.dayLines | (totals n out) | (columnSum 5 n out 0 ∷ scale ∷ drop 2 (totals n out))
 Text.dayLines | (totals n out) | (columnSum 5 n out 0 ∷ columnSum 5 n out 1 ∷ columnSum 5 n out 2 ∷ columnSum 5 n out 3 ∷ 2 * columnSum 5 n out 3 ∷ [])
 Text.dayLines | (totals n out) | (columnSum 5 n out 0 ∷ columnSum 5 n out 1 ∷ columnSum 5 n out 2 ∷ 11 * columnSum 5 n out 2 / 10 ∷ columnSum 5 n out 4 ∷ [])
-Text.dayLines | (totals n out) | (columnSum 5 n out 0 ∷ columnSum 5 n out 1 ∷ 100 * getD figures 1 0 ∷ drop 3 (totals n out))
+Text.dayLines | (totals n out) | (columnSum 5 n out 0 ∷ columnSum 5 n out 1 ∷ 100 * getD answer 1 0 ∷ drop 3 (totals n out))
 Text.sized | dayLines (d .terms .number) (after .held .n) (returned after call) (written after call) | printed (bytes "day") (d .terms .number ∷ returned after call) ++ rows (bytes "daily") 5 (after .held .n) (written after call) ++ printed (bytes "total") (totals (after .held .n) (flatMap (λ k. dailies (g .held) (k .accounts)) (take 1 (g .days))))
 Text.sized | dayLines (d .terms .number) (after .held .n) (returned after call) (written after call) | printed (bytes "day") (d .terms .number ∷ returned after call) ++ rows (bytes "daily") 5 (after .held .n) (written after call) ++ printed (bytes "total") (map (λ c. Σ (after .days) (λ k. columnSum 5 (after .held .n) (dailies (g .held) (k .accounts)) c)) (range 0 5))
 Text.followedBy | report ++ rest next | rest next

@@ -1,4 +1,4 @@
--- What the report prints of a call: one definition for every outcome, in document 01's words.
+-- What the report prints of a call: one definition for every outcome, by the lines that the report's definition has.
 use mathlib.Core.Bool.{Bool, true, false}
 use mathlib.Core.List.{List, [], _∷_}
 use Prim.Native.Nat.{ℕ, _+_}

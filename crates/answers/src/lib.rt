@@ -1,7 +1,7 @@
 // What a call says, as the report prints it: one way for openings, days and closings.
 mod totals;
 
-use crate::totals::totals;
+use crate::totals::day_totals;
 use period::Outcome;
 use report::put_bytes;
 use report::put_line;
@@ -16,7 +16,7 @@ ghost use Rattle.methodology.specs.Text.{totals, dayLines};
 ghost use Rattle.report.specs.Put.{Put};
 ghost use Rattle.answers.specs.Said.{widthSaid, sumsSaid, lineSaid, said, isOver};
 
-// An accepted day's lines: the day line, n daily lines, and the total line under them.
+// An accepted day's lines: "After a day's daily lines the report prints `total`, then the sums".
 fn put_day(
     out: &mut [u8],
     at: usize,
@@ -31,7 +31,7 @@ fn put_day(
     ensures { λ r. ⌜ Put (now (out .entry)) at (dayLines number n (total ∷ max ∷ []) (now (figures .entry))) (now (out .exit)) r ⌝ }
 {
     let numbers = [number, total, max];
-    let sums = totals(n, figures);
+    let sums = day_totals(n, figures);
     let next = put_line(out, at, b"day", &numbers);
     let end = put_rows(out, next, b"daily", 5, n, figures);
     put_line(out, end, b"total", &sums)

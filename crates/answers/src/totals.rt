@@ -21,7 +21,7 @@ fn column_sum(width: usize, n: usize, figures: &[u64], c: usize) -> u64
 }
 
 // "the sums of e, share, value, reserve and estimate over that day's members", n of them.
-pub fn totals(n: usize, figures: &[u64]) -> [u64; 5]
+pub fn day_totals(n: usize, figures: &[u64]) -> [u64; 5]
     requires { ⌜ 5 * n ≤ length (now figures) ⌝ }
     requires { ⌜ Every (λ x. x < 2 ^ 64) (totals n (now figures)) ⌝ }
     ensures { λ r. ⌜ r ≡ totals n (now (figures .entry)) ⌝ }

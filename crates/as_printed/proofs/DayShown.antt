@@ -11,7 +11,7 @@ use Rattle.numbers.proofs.Sums.{Σ-map}
 use Rattle.methodology.specs.Account.{members}
 use Rattle.methodology.specs.Text.{bytes, same, stretch, refusedLine, rows, columnSum, totals, dayLines, fundLines}
 use Rattle.demand3.specs.Demand3.{Fits64}
-use Rattle.as_printed.specs.AsPrinted.{Line, worded, DayRead, dayRead, AddsUp, Other}
+use Rattle.as_printed.specs.AsPrinted.{Line, worded, DayRead, linesOfDay, AddsUp, Other}
 use Rattle.as_printed.proofs.PrintedLines.{Word, Shows, shows-line, shows-then, shows-each}
 
 -- member m's line has its number before its stretch
@@ -28,11 +28,11 @@ shows-rows word width n out w few fit =
 -- ---- an accepted day
 
 module _ (number n T Max : ℕ) (out : List ℕ) where
-  abbrev asRead : DayRead
-  asRead = record { number = number; total = T; max = Max; records = map (ofMember 5 out) (members n); sums = totals n out }
+  abbrev pub asRead : DayRead
+  asRead = record { number = number; T = T; Max = Max; records = map (ofMember 5 out) (members n); sums = totals n out }
 
   pub day-shows : Every Fits64 (number ∷ T ∷ Max ∷ []) → Every Fits64 out → Every Fits64 (totals n out) → n ≤ 32
-      → Shows (dayLines number n (T ∷ Max ∷ []) out) (dayRead asRead)
+      → Shows (dayLines number n (T ∷ Max ∷ []) out) (linesOfDay asRead)
   unfolding dayLines bytes any
   day-shows head fit sums few =
       let lines = sym (map-map (worded (bytes "daily")) (ofMember 5 out) (members n)) in

@@ -1,36 +1,38 @@
 -- Every report read back, by what it is made of: the lines of each accepted day add up, and what ends the report has no day's lines. With
 -- it the claim is whole: `as-printed`.
 use mathlib.Core.Path.{_≡_, refl, sym, ap, subst, _∙_}
-use mathlib.Core.List.{List, [], _∷_, _++_, flatMap, append-nil, append-assoc}
+use mathlib.Core.List.{List, [], _∷_, _++_, map, flatMap, append-nil, append-assoc}
 use Prim.Native.Nat.{ℕ, _*_, _≤_, _<_, _^_}
 use native.Mathlib.Omega.{arith}
+use lib.ListN.{getD, drop}
 use Rattle.numbers.specs.Lists.{Every}
 use Rattle.numbers.proofs.Lists.{every-append}
-use Rattle.methodology.specs.Account.{accounts}
+use Rattle.methodology.specs.declared.Refusal.the-variants.{Clear}
+use Rattle.methodology.specs.Account.{DayInput, accounts}
 use Rattle.methodology.specs.Day.{total, maxEul}
-use Rattle.methodology.specs.Register.{Call, Register, start, accept, step, returned, written}
-use Rattle.methodology.specs.Text.{LF, bytes, same, split, refusedLine, reportOf}
-use Rattle.methodology.specs.Lines.{membersIn}
+use Rattle.methodology.specs.Register.{Call, Register, start, refusal, accept, step, returned, written}
+use Rattle.methodology.specs.Text.{LF, bytes, same, split, fields, valueFrom, refusedLine, totals, reportOf}
 use Rattle.methodology.proofs.Passed.{step-clear}
 use Rattle.methodology.proofs.Enough.{rises}
 use Rattle.methodology.proofs.Reports.{dayCall, closingCall, sizedLines, Rest, a-day, a-fund, a-refusal, Report, begun, not-begun, reports}
 use Rattle.fund.proofs.Dailies.{dailies-long}
-use Rattle.demand3.proofs.RegisterFits.{Kept, kept-first, accepts, writes-few}
+use Rattle.demand3.specs.Demand3.{Fits64}
+use Rattle.demand3.proofs.RegisterFits.{Kept, kept-first, CallFits, call-fits, writes-few}
 use Rattle.answers.proofs.Columns.{totals-fit}
-use Rattle.as_printed.specs.AsPrinted.{Line, linesOf, Decimal, DayRead, dayRead, AddsUp, Other, DaysAddUp, AsPrinted}
+use Rattle.as_printed.specs.AsPrinted.{Line, linesOf, InDecimal, DayRead, linesOfDay, AddsUp, Other, DaysAddUp, registerAfter, membersIn, ReadAsSummed, AsPrinted}
 use Rattle.as_printed.proofs.DaySums.{sums-of-five, first-sum-is-T}
-use Rattle.as_printed.proofs.ReadBack.{reads-back, reads-back-as-text}
+use Rattle.as_printed.proofs.ReadBack.{digits-alone, reads-back, reads-back-as-text}
 use Rattle.as_printed.proofs.PrintedLines.{Shows}
-use Rattle.as_printed.proofs.DayShown.{day-shows, day-adds-up, fund-shows, fund-other, refused-shows, refused-other}
+use Rattle.as_printed.proofs.DayShown.{asRead, day-shows, day-adds-up, fund-shows, fund-other, refused-shows, refused-other}
 
 -- ---- what is read back
 
 record ReadsBack (n : ℕ) (report : List ℕ) : Type 0 where
   days-add-up : DaysAddUp n report
-  all-decimal : Every Decimal (split LF report)
+  all-decimal : Every InDecimal (split LF report)
 
 -- nothing after the last LF
-last-part : Every Decimal (split LF [])
+last-part : Every InDecimal (split LF [])
 unfolding split
 last-part = (record { fields-are = refl; fit = tt }, tt)
 
@@ -47,10 +49,10 @@ ends-so {s = s} {lines = lines} shows other =
             add-up = tt;
             no-day = every-append Other lines (linesOf []) other (refl, tt);
           };
-      all-decimal = subst (λ (l : List ℕ). Every Decimal (split LF l)) (append-nil s) (shows .decimal-too [] last-part);
+      all-decimal = subst (λ (l : List ℕ). Every InDecimal (split LF l)) (append-nil s) (shows .decimal-too [] last-part);
     }
 
-day-so : {n : ℕ} {s rest : List ℕ} {d : DayRead} → Shows s (dayRead d) → AddsUp n d → ReadsBack n rest → ReadsBack n (s ++ rest)
+day-so : {n : ℕ} {s rest : List ℕ} {d : DayRead} → Shows s (linesOfDay d) → AddsUp n d → ReadsBack n rest → ReadsBack n (s ++ rest)
 unfolding flatMap
 day-so {rest = rest} {d = d} shows adds more =
     let m = more .days-add-up in
@@ -59,7 +61,7 @@ day-so {rest = rest} {d = d} shows adds more =
           record {
             days = d ∷ m .days;
             rest = m .rest;
-            whole = shows .are rest ∙ ap (λ (l : List Line). dayRead d ++ l) (m .whole) ∙ sym (append-assoc (dayRead d) (flatMap dayRead (m .days)) (m .rest));
+            whole = shows .are rest ∙ ap (λ (l : List Line). linesOfDay d ++ l) (m .whole) ∙ sym (append-assoc (linesOfDay d) (flatMap linesOfDay (m .days)) (m .rest));
             add-up = (adds, m .add-up);
             no-day = m .no-day;
           };
@@ -71,27 +73,67 @@ day-so {rest = rest} {d = d} shows adds more =
 refused-back : {n : ℕ} (number line : ℕ) → number ≤ 9 → line < 2 ^ 32 → ReadsBack n (refusedLine number line)
 refused-back number line h k = ends-so (refused-shows number line (omega arith) (omega arith)) (refused-other number line)
 
+-- an accepted day, and the register as it leaves it
+module _ {g : Register} (k : Kept g) (d : DayInput) (clear : refusal g (dayCall g d) ≡ Clear) where
+  abbrev call : Call
+  call = dayCall g d
+
+  abbrev after : Register
+  after = step g call
+
+  abbrev n : ℕ
+  n = after .held .n
+
+  abbrev out : List ℕ
+  out = written after call
+
+  abbrev T : ℕ
+  T = total (after .held) (accounts (after .held .k) d)
+
+  abbrev Max : ℕ
+  Max = maxEul (after .held) (accounts (after .held .k) d)
+
+  fit : CallFits g call
+  fit = call-fits k call
+
+  few : n ≤ 32
+  few = fit .kept .follows .good .members-few
+
+  sums-fit : Every Fits64 (totals n out)
+  sums-fit = totals-fit n out few (writes-few k d (5 * g .held .n) clear)
+
+  day-back : Shows (sizedLines after d call) (linesOfDay (asRead (d .terms .number) n T Max out))
+  unfolding returned
+  day-back =
+      let number = rises g d (5 * g .held .n) clear in
+      day-shows (d .terms .number) n T Max out (omega arith, fit .returned-fits clear) (fit .written-fits clear) sums-fit few
+
+  day-sums : AddsUp n (asRead (d .terms .number) n T Max out)
+  unfolding written
+  day-sums = day-adds-up (d .terms .number) n T Max out (dailies-long (after .held) _) (first-sum-is-T (after .held) _)
+
+  summed : ReadAsSummed after d call
+  unfolding returned
+  summed =
+      record {
+        returned-fits = fit .returned-fits clear;
+        written-fits = fit .written-fits clear;
+        sums-fit = sums-fit;
+        reads = rw append-nil at (day-back .are []);
+      }
+
 rest-back : {last : ℕ} {g : Register} {s : List ℕ} → last < 2 ^ 32 → Kept g → Rest last g s → ReadsBack (g .held .n) s
-unfolding accept returned written
+unfolding accept
 rest-back {g = g} near k (a-day {rest = rest} d clear more) =
-    let call = dayCall g d in
-    let after = step g call in
-    let accts = accounts (after .held .k) d in
-    let fit = accepts k call clear in
-    let few = fit .kept .follows .good .members-few in
-    let number = rises g d (5 * g .held .n) clear in
-    let shows = day-shows (d .terms .number) (after .held .n) (total (after .held) accts) (maxEul (after .held) accts) (written after call)
-    (omega arith, fit .returned-fits) (fit .written-fits) (totals-fit (after .held .n) (written after call) few (writes-few k d (5 * g .held .n) clear)) few in
-    let adds = day-adds-up (d .terms .number) (after .held .n) (total (after .held) accts) (maxEul (after .held) accts) (written after call)
-    (dailies-long (after .held) accts) (first-sum-is-T (after .held) accts) in
-    let members = ap (λ (x : Register). x .held .n) (step-clear g call clear) in
-    subst (λ (n : ℕ). ReadsBack n (sizedLines after d call ++ rest)) members (day-so shows adds (rest-back near (fit .kept) more))
+    let members = ap (λ (x : Register). x .held .n) (step-clear g (dayCall g d) clear) in
+    let days = day-so (day-back k d clear) (day-sums k d clear) (rest-back near (fit k d clear .kept) more) in
+    subst (λ (n : ℕ). ReadsBack n (sizedLines (step g (dayCall g d)) d (dayCall g d) ++ rest)) members days
 rest-back {g = g} near k (a-fund clear) =
     let call = closingCall g in
     let after = step g call in
-    let fit = accepts k call clear in
+    let fit = call-fits k call in
     let few = fit .kept .follows .good .members-few in
-    ends-so (fund-shows (after .held .n) (returned after call) (written after call) (fit .returned-fits) (fit .written-fits) few)
+    ends-so (fund-shows (after .held .n) (returned after call) (written after call) (fit .returned-fits clear) (fit .written-fits clear) few)
     (fund-other (after .held .n) (returned after call) (written after call))
 rest-back near k (a-refusal number line h in-text) = refused-back number line h (omega arith)
 
@@ -99,19 +141,34 @@ report-back : {n last : ℕ} {s : List ℕ} → last < 2 ^ 32 → Report n last 
 unfolding accept
 report-back {s = s} near (begun o is few clear rest) =
     let members = ap (λ (x : Register). x .held .n) (step-clear start (Call.opening o) clear) ∙ is in
-    subst (λ (n : ℕ). ReadsBack n s) members (rest-back near (accepts kept-first (Call.opening o) clear .kept) rest)
+    subst (λ (n : ℕ). ReadsBack n s) members (rest-back near (call-fits kept-first (Call.opening o) .kept) rest)
 report-back near (not-begun number line h in-text) = refused-back number line h (omega arith)
 
+-- the number of members, off the text's first line
+told : (fs : List (List ℕ)) → valueFrom 0 (getD fs 1 []) ≡ getD (map (valueFrom 0) (drop 1 fs)) 0 0
+unfolding valueFrom
+told [] = refl
+told (f ∷ []) = refl
+told (f ∷ g ∷ fs) = refl
+
 every-report : (text : List ℕ) → ReadsBack (membersIn text) (reportOf text)
-every-report text = report-back (omega arith) (reports text)
+every-report text = subst (λ (n : ℕ). ReadsBack n (reportOf text)) (told (fields (getD (split LF text) 0 []))) (report-back (omega arith) (reports text))
+
+-- ---- the claim
+
+kept-after : {g : Register} → Kept g → (calls : List Call) → Kept (registerAfter g calls)
+kept-after k [] = k
+kept-after k (c ∷ cs) = kept-after (call-fits k c .kept) cs
 
 pub as-printed : AsPrinted
 as-printed =
     record {
       sums-of-five = sums-of-five;
       first-sum-is-T = first-sum-is-T;
+      digits-alone = digits-alone;
       reads-back = reads-back;
       reads-back-as-text = reads-back-as-text;
+      read-as-summed = λ calls. summed (kept-after kept-first calls);
       all-decimal = λ text. every-report text .all-decimal;
       days-add-up = λ text. every-report text .days-add-up;
     }

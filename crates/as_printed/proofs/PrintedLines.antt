@@ -12,7 +12,7 @@ use mathlib.Core.List.{List·Memᴰ·head as here, List·Memᴰ·tail as there}
 use Rattle.numbers.proofs.Lists.{_∈_, any-false, mem-every, every-weaken, every-append, every-flatMap}
 use Rattle.methodology.specs.Text.{tab, LF, onto, split, fields, valueFrom, decimal, printed}
 use Rattle.demand3.specs.Demand3.{Fits64}
-use Rattle.as_printed.specs.AsPrinted.{Line, worded, lineOf, linesOf, Decimal}
+use Rattle.as_printed.specs.AsPrinted.{Line, worded, lineOf, linesOf, InDecimal}
 use Rattle.as_printed.proofs.ReadBack.{Digit, reads-back, all-digits}
 
 -- ---- parts
@@ -72,7 +72,7 @@ module _ (w numbers : List ℕ) (word : Word w) (fit : Every Fits64 numbers) whe
   is-line : lineOf (lineWith w numbers) ≡ worded w numbers
   is-line = rw (line-fields w numbers (without tab w (word .0)), values-back numbers fit)
 
-  is-decimal : Decimal (lineWith w numbers)
+  is-decimal : InDecimal (lineWith w numbers)
   is-decimal =
       record {
         fields-are = line-fields w numbers (without tab w (word .0)) ∙ ap (λ (l : Line). l .word ∷ map decimal (l .numbers)) (sym is-line);
@@ -84,14 +84,14 @@ module _ (w numbers : List ℕ) (word : Word w) (fit : Every Fits64 numbers) whe
 -- the bytes s are these lines, whatever follows, and all of them are decimal
 pub record Shows (s : List ℕ) (lines : List Line) : Type 0 where
   pub are : (rest : List ℕ) → linesOf (s ++ rest) ≡ lines ++ linesOf rest
-  pub decimal-too : (rest : List ℕ) → Every Decimal (split LF rest) → Every Decimal (split LF (s ++ rest))
+  pub decimal-too : (rest : List ℕ) → Every InDecimal (split LF rest) → Every InDecimal (split LF (s ++ rest))
 
 pub shows-line : (w numbers : List ℕ) → Word w → Every Fits64 numbers → Shows (printed w numbers) (worded w numbers ∷ [])
 shows-line w numbers word fit =
     let no-LF = without LF w (word .1) in
     record {
       are = λ rest. rw (line-ended w numbers rest no-LF, is-line w numbers word fit);
-      decimal-too = λ rest h. subst (Every Decimal) (sym (line-ended w numbers rest no-LF)) (is-decimal w numbers word fit, h);
+      decimal-too = λ rest h. subst (Every InDecimal) (sym (line-ended w numbers rest no-LF)) (is-decimal w numbers word fit, h);
     }
 
 pub shows-then : {s t : List ℕ} {ls ms : List Line} → Shows s ls → Shows t ms → Shows (s ++ t) (ls ++ ms)

@@ -79,12 +79,14 @@ unfolding digits
 no-leading-zero zero h = refl
 no-leading-zero (suc x) h = rw (ne-eqb (getD (decimal (suc x)) 0 0) 48 (λ e. omega (arith, first-digit 19 (suc x) (omega arith) h)))
 
+pub digits-alone : (x : ℕ) → any (λ b. not (isDigit b)) (decimal x) ≡ false
+digits-alone x =
+    let digit = every-mem Digit (decimal x) (all-digits 19 x) in
+    none-any _ (decimal x) (λ b i. let d = digit b i in rw (le-ltb b 48 (d .0), le-ltb 57 b (d .1)))
+
 pub reads-back-as-text : (x : ℕ) → x < 10 ^ 13 → numberOf (decimal x) ≡ some x
 unfolding numberOf
 reads-back-as-text x h =
     let least = le-ltb (length (decimal x)) 1 (some-digits 19 x) in
     let most = le-ltb 13 (length (decimal x)) (few-digits 19 12 x h) in
-    let digit = every-mem Digit (decimal x) (all-digits 19 x) in
-    let odd : any (λ b. not (isDigit b)) (decimal x) ≡ false =
-    none-any _ (decimal x) (λ b i. let d = digit b i in rw (le-ltb b 48 (d .0), le-ltb 57 b (d .1))) in
-    rw (least, most, odd, no-leading-zero x (omega arith), reads-back x (omega arith))
+    rw (least, most, digits-alone x, no-leading-zero x (omega arith), reads-back x (omega arith))

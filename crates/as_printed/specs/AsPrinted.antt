@@ -1,19 +1,20 @@
 -- Document 02, Change 1, of the report as a person reads it off its bytes: "Each sum equals that of the day's records as printed, and the
 -- first equals T." `AsPrinted` is the claim.
 use mathlib.Core.Path.{_≡_}
-use mathlib.Core.Bool.{false, _||_}
+use mathlib.Core.Bool.{false, not, _||_}
 use mathlib.Core.List.{List, [], _∷_, _++_, map, flatMap}
 use mathlib.Core.Option.{some}
-use Prim.Native.Nat.{ℕ, _<_, _^_}
+use Prim.Native.Nat.{ℕ, _*_, _^_, _<_}
 use lib.ListN.{length, getD, drop}
-use Rattle.numbers.specs.Lists.{range, Every}
+use Rattle.numbers.specs.Lists.{range, any, Every}
 use Rattle.numbers.specs.Sums.{Σ}
+use Rattle.methodology.specs.declared.Refusal.the-variants.{Clear}
 use Rattle.methodology.specs.declared.Opening.{Opening}
-use Rattle.methodology.specs.Account.{Account, members}
+use Rattle.methodology.specs.Account.{DayInput, Account, members}
 use Rattle.methodology.specs.Member.{loss}
 use Rattle.methodology.specs.Day.{total, maxEul, share, value, reserve, estimate, dailies}
-use Rattle.methodology.specs.Text.{LF, bytes, same, split, fields, valueFrom, numberOf, decimal, totals, reportOf}
-use Rattle.methodology.specs.Lines.{membersIn}
+use Rattle.methodology.specs.Register.{Call, Register, start, refusal, step, returned, written}
+use Rattle.methodology.specs.Text.{LF, bytes, same, split, fields, isDigit, valueFrom, numberOf, decimal, stretch, totals, dayLines, reportOf}
 use Rattle.demand3.specs.Demand3.{Fits64}
 
 -- ---- a line
@@ -34,7 +35,7 @@ abbrev pub linesOf : (report : List ℕ) → List Line
 linesOf report = map lineOf (split LF report)
 
 -- a line that has nothing but its word and its numbers in decimal, all below 2^64
-pub record Decimal (line : List ℕ) : Type 0 where
+pub record InDecimal (line : List ℕ) : Type 0 where
   pub fields-are : fields line ≡ lineOf line .word ∷ map decimal (lineOf line .numbers)
   pub fit : Every Fits64 (lineOf line .numbers)
 
@@ -43,15 +44,17 @@ pub record Decimal (line : List ℕ) : Type 0 where
 -- an accepted day as it is read: the day line's numbers, "the day's records", which are those of its daily lines, and the total line's
 pub record DayRead : Type 0 where
   pub number : ℕ
-  pub total : ℕ
-  pub max : ℕ
+  pub T : ℕ
+  pub Max : ℕ
   pub records : List (List ℕ)
   pub sums : List ℕ
 
 -- its lines
-abbrev pub dayRead : DayRead → List Line
-dayRead d =
-    (worded (bytes "day") (d .number ∷ d .total ∷ d .max ∷ []) ∷ []) ++ map (worded (bytes "daily")) (d .records) ++ (worded (bytes "total") (d .sums) ∷ [])
+abbrev pub linesOfDay : DayRead → List Line
+linesOfDay d =
+    (worded (bytes "day") (d .number ∷ d .T ∷ d .Max ∷ []) ∷ [])
+    ++ map (worded (bytes "daily")) (d .records)
+    ++ (worded (bytes "total") (d .sums) ∷ [])
 
 pub record AddsUp (n : ℕ) (d : DayRead) : Type 0 where
   -- a record for each member: its number, and five more
@@ -60,9 +63,13 @@ pub record AddsUp (n : ℕ) (d : DayRead) : Type 0 where
   -- "Each sum equals that of the day's records as printed"
   pub sums-are : d .sums ≡ map (λ c. Σ (d .records) (λ numbers. getD numbers c 0)) (range 1 5)
   -- "and the first equals T"
-  pub first-is : getD (d .sums) 0 0 ≡ d .total
+  pub first-is : getD (d .sums) 0 0 ≡ d .T
 
 -- ---- a report
+
+-- n, the number of members: the first number in the text's first line
+abbrev pub membersIn : (text : List ℕ) → ℕ
+membersIn text = getD (lineOf (getD (split LF text) 0 []) .numbers) 0 0
 
 -- a line that is no day's
 abbrev pub Other : Line → Type 0
@@ -72,9 +79,34 @@ Other l = (same (l .word) (bytes "day") || same (l .word) (bytes "daily") || sam
 pub record DaysAddUp (n : ℕ) (report : List ℕ) : Type 0 where
   pub days : List DayRead
   pub rest : List Line
-  pub whole : linesOf report ≡ flatMap dayRead days ++ rest
+  pub whole : linesOf report ≡ flatMap linesOfDay days ++ rest
   pub add-up : Every (AddsUp n) days
   pub no-day : Every Other rest
+
+-- ---- what was summed is what is read
+
+-- the register after calls, refused ones among them
+abbrev pub registerAfter : Register → List Call → Register
+registerAfter g [] = g
+registerAfter g (c ∷ cs) = registerAfter (step g c) cs
+
+-- An accepted day, where g is the register as the call leaves it: what it returned and wrote and the sums of that are below 2^64, and its
+-- lines in the report are read as these very numbers, each member's after its own.
+pub record ReadAsSummed (g : Register) (d : DayInput) (call : Call) : Type 0 where
+  pub returned-fits : Every Fits64 (returned g call)
+  pub written-fits : Every Fits64 (written g call)
+  pub sums-fit : Every Fits64 (totals (g .held .n) (written g call))
+  pub reads :
+      linesOf (dayLines (d .terms .number) (g .held .n) (returned g call) (written g call))
+      ≡ linesOfDay
+      (record {
+        number = d .terms .number;
+        T = getD (returned g call) 0 0;
+        Max = getD (returned g call) 1 0;
+        records = map (λ m. m ∷ stretch 5 m (written g call)) (members (g .held .n));
+        sums = totals (g .held .n) (written g call);
+      })
+      ++ linesOf []
 
 -- ---- Change 1
 
@@ -93,10 +125,17 @@ pub record AsPrinted : Type 0 where
       ∷ []
   -- "and the first equals T"
   pub first-sum-is-T : (o : Opening) (accts : List Account) → getD (totals (o .n) (dailies o accts)) 0 0 ≡ total o accts
-  -- a number's printed digits have its value, and are that number to the reader of a text, for which a number has 1 to 13 digits
+  -- A number below 10^20 is printed in digits alone, which have its value; where there are at most 13 they are that number to the reader of
+  -- a text.
+  pub digits-alone : (x : ℕ) → any (λ b. not (isDigit b)) (decimal x) ≡ false
   pub reads-back : (x : ℕ) → x < 10 ^ 20 → valueFrom 0 (decimal x) ≡ x
   pub reads-back-as-text : (x : ℕ) → x < 10 ^ 13 → numberOf (decimal x) ≡ some x
-  -- so does every line of every report, and its numbers are below 2^64
-  pub all-decimal : (text : List ℕ) → Every Decimal (split LF (reportOf text))
+  -- every accepted day, after any calls
+  pub read-as-summed : (calls : List Call) (d : DayInput)
+      → let g = registerAfter start calls in
+      let call = Call.day d (5 * g .held .n) in
+      refusal g call ≡ Clear → ReadAsSummed (step g call) d call
+  -- every line of every report
+  pub all-decimal : (text : List ℕ) → Every InDecimal (split LF (reportOf text))
   -- "Each sum equals that of the day's records as printed, and the first equals T."
   pub days-add-up : (text : List ℕ) → DaysAddUp (membersIn text) (reportOf text)

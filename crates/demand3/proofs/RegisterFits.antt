@@ -30,35 +30,34 @@ pub record Kept (g : Register) : Type 0 where
 pub kept-first : Kept start
 kept-first = record { period = _; follows = starts; narrow = narrow-fresh }
 
-pub record AcceptedFits (g : Register) (c : Call) : Type 0 where
+-- after a call it is still one, and the numbers of an accepted call fit
+pub record CallFits (g : Register) (c : Call) : Type 0 where
   pub kept : Kept (step g c)
-  pub returned-fits : Every Fits64 (returned (step g c) c)
-  pub written-fits : Every Fits64 (written (step g c) c)
+  pub returned-fits : refusal g c ≡ Clear → Every Fits64 (returned (step g c) c)
+  pub written-fits : refusal g c ≡ Clear → Every Fits64 (written (step g c) c)
 
-accepted-fits : {g : Register} → Kept g → (a : Asked) → Every Fits64 (lent a) → refusal g (callOf a) ≡ Clear → AcceptedFits g (callOf a)
+as-asked : {g : Register} → Kept g → (a : Asked) → Every Fits64 (lent a) → CallFits g (callOf a)
 unfolding answer buffer
-accepted-fits {g} k a free clear =
+as-asked k a free =
     let (r, after, m) = makes (k .period) a in
     let f = fits (k .narrow) a r after m in
     let (follows, agreed) = agrees (k .follows) a r after m in
     record {
       kept = record { period = r .period; follows = follows; narrow = f .period };
-      returned-fits = rw (agreed .answer, clear) at (f .answer);
-      written-fits = rw (agreed .buffer, clear) at (f .buffer free);
+      returned-fits = λ clear. rw (agreed .answer, clear) at (f .answer);
+      written-fits = λ clear. rw (agreed .buffer, clear) at (f .buffer free);
     }
 
 -- zeros for a call to write over
 zeros-fit : (room : ℕ) → Every Fits64 (replicate room 0)
 zeros-fit room = mem-every Fits64 (replicate room 0) (by-index Fits64 (replicate room 0) 0 (λ i h. omega (arith, replicate-at {A = ℕ} room i 0)))
 
-pub accepts : {g : Register} → Kept g → (c : Call) → refusal g c ≡ Clear → AcceptedFits g c
-accepts k (Call.opening o) = accepted-fits k (Asked.opening o) tt
-accepts {g} k (Call.day d room) =
-    subst (λ (r : ℕ). refusal g (Call.day d r) ≡ Clear → AcceptedFits g (Call.day d r)) (length-replicate room 0)
-    (accepted-fits k (Asked.day d (replicate room 0)) (zeros-fit room))
-accepts {g} k (Call.closing room) =
-    subst (λ (r : ℕ). refusal g (Call.closing r) ≡ Clear → AcceptedFits g (Call.closing r)) (length-replicate room 0)
-    (accepted-fits k (Asked.closing (replicate room 0)) (zeros-fit room))
+pub call-fits : {g : Register} → Kept g → (c : Call) → CallFits g c
+call-fits k (Call.opening o) = as-asked k (Asked.opening o) tt
+call-fits {g} k (Call.day d room) =
+    subst (λ (r : ℕ). CallFits g (Call.day d r)) (length-replicate room 0) (as-asked k (Asked.day d (replicate room 0)) (zeros-fit room))
+call-fits {g} k (Call.closing room) =
+    subst (λ (r : ℕ). CallFits g (Call.closing r)) (length-replicate room 0) (as-asked k (Asked.closing (replicate room 0)) (zeros-fit room))
 
 -- the numbers that a day writes are so few that sums of them fit too
 pub writes-few : {g : Register} → Kept g → (d : DayInput) (room : ℕ) → refusal g (Call.day d room) ≡ Clear

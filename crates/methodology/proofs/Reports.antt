@@ -19,7 +19,7 @@ use Rattle.methodology.specs.Account.{withGroups, DayInput}
 use Rattle.methodology.specs.Refusals.{outside, nOutside, kOutside, countOutside}
 use Rattle.methodology.specs.Register.{Call, Register, start, refusal, step, returned, written}
 use Rattle.methodology.specs.Text.{LF, bytes, same, onto, split, fields, isDigit, valueFrom, numberOf, also, everyField, numbersAfter, badBytes, AccountLine, refusedLine, dayLines, fundLines, Expected, period, member, day, account, afterEnd, Read, bad, readPeriod, opened, readMember, readDay, sized, withAccount, readAccount, readLine, closed, atEnd, followedBy, reportFrom, reportOf}
-use Rattle.methodology.specs.Lines.{indexOf, before, membersIn}
+use Rattle.methodology.specs.Lines.{indexOf, before}
 use Rattle.methodology.proofs.Passed.{inside, by-test}
 use Rattle.methodology.proofs.RowLimits.{RowFew, refusal-few}
 use Rattle.methodology.proofs.Splits.{split-first}
@@ -213,12 +213,19 @@ enough = 2162688
 abbrev pub lastLine : ℕ
 lastLine = enough + 258
 
+-- n, as a line tells it: the number after its word; and as a text does
+abbrev toldBy : (line : List ℕ) → ℕ
+toldBy l = valueFrom 0 (getD (fields l) 1 [])
+
+abbrev pub membersTold : (text : List ℕ) → ℕ
+membersTold text = toldBy (getD (split LF text) 0 [])
+
 first-line : (l : List ℕ) (ls : List (List ℕ)) → length ls + 258 ≤ lastLine
-    → Report (valueFrom 0 (getD (fields l) 1 [])) lastLine (reportFrom 1 (l ∷ ls) period)
+    → Report (toldBy l) lastLine (reportFrom 1 (l ∷ ls) period)
 unfolding reportFrom atEnd readLine
 first-line l [] near = not-begun 9 1 (omega arith) (omega arith)
 first-line l (m ∷ ls) near =
-    let n = valueFrom 0 (getD (fields l) 1 []) in
+    let n = toldBy l in
     let goes = from-line n lastLine 2 m ls (omega arith) in
     by-test (λ (x : Read). Report n lastLine (followedBy x (reportFrom 2 (m ∷ ls)))) (badBytes l) _ _ (λ b. line-9 n lastLine 1 (omega arith) _ goes period)
     (λ b. by-period n lastLine 1 (omega arith) _ goes _ (numbers-first (bytes "period") 2 l))
@@ -236,25 +243,25 @@ split-few b (x ∷ s) =
     by-test (λ (ps : List (List ℕ)). length ps ≤ suc (suc (length s))) (eqb x b) ([] ∷ split b s) (onto x (split b s)) (λ e. omega arith)
     (λ e. omega (arith, onto-few x (split b s)))
 
-enough-for : (text : List ℕ) → length text ≤ enough → Report (membersIn text) lastLine (reportOf text)
+enough-for : (text : List ℕ) → length text ≤ enough → Report (membersTold text) lastLine (reportOf text)
 unfolding reportOf
 enough-for text h =
     let parts = split-first LF text in
     rw parts (first-line (before LF text) _ (omega (arith, split-few LF text, ap length parts)))
 
-pub reports : (text : List ℕ) → Report (membersIn text) lastLine (reportOf text)
+pub reports : (text : List ℕ) → Report (membersTold text) lastLine (reportOf text)
 unfolding reportOf
 reports text = by (ltb enough (length text)) (ltb (indexOf LF text) enough) refl refl
   where
-    whole : Report (membersIn (take enough text)) lastLine (reportOf text)
+    whole : Report (membersTold (take enough text)) lastLine (reportOf text)
     whole = subst (Report _ lastLine) (cut enough text (omega arith)) (enough-for (take enough text) (omega (arith, length-take enough text)))
 
-    by : (longer near : Bool) → ltb enough (length text) ≡ longer → ltb (indexOf LF text) enough ≡ near → Report (membersIn text) lastLine (reportOf text)
+    by : (longer near : Bool) → ltb enough (length text) ≡ longer → ltb (indexOf LF text) enough ≡ near → Report (membersTold text) lastLine (reportOf text)
     by false near p q = enough-for text (ltb-false enough (length text) p)
     by true true p q =
         let same-line = before-same enough text (ltb-true enough (length text) p) (ltb-true (indexOf LF text) enough q) in
         let first : getD (split LF (take enough text)) 0 [] ≡ getD (split LF text) 0 [] =
         rw (split-first LF (take enough text), split-first LF text) same-line in
-        subst (λ (l : List ℕ). Report (valueFrom 0 (getD (fields l) 1 [])) lastLine (reportOf text)) first whole
+        subst (λ (l : List ℕ). Report (toldBy l) lastLine (reportOf text)) first whole
     by true false p q =
         rw (too-long 1 text period (omega (arith, ltb-false (indexOf LF text) enough q))) (not-begun 9 1 (omega arith) (omega arith))

@@ -1,6 +1,6 @@
--- Worked texts with the reports that they must give: document 01's printed month, texts refused by every row that a text can meet, and
--- months with groups, clients and several days. The reports were worked out from the documents by recalculations of others; the theorem
--- computes them.
+-- Worked texts with the reports that they must give: document 01's printed month, "with these lines added" as document 02's Change 1 has it,
+-- texts refused by every row that a text can meet, and months with groups, clients and several days. The reports were worked out from the
+-- documents by recalculations of others; the theorem computes them.
 use mathlib.Core.Path.{_≡_, refl}
 use mathlib.Core.List.{List, [], _∷_, map}
 use mathlib.Core.Option.{some}
@@ -292,8 +292,14 @@ texts =
     ∷ ("period\t1\t1\nmember\t1\t0\nday\t3\t1\nacct\t1\t0\tH\t100000000000x\t0\t0\t0\nend\n" gives "refused\t9\t4\n")
     -- scenario 16 alone, group 32, day 31
     ∷ ("period\t2\t16\nmember\t1\t32\nmember\t2\t32\nday\t31\t2\nacct\t1\t0\tH\t5\t0\t0\t5\t5\t5\t5\t5\t5\t5\t5\t5\t5\t5\t5\t5\t5\t5\t2\nacct\t2\t0\tH\t9\t0\t0\t9\t9\t9\t9\t9\t9\t9\t9\t9\t9\t9\t9\t9\t9\t9\t5\nend\n" gives "day\t31\t7\t7\ndaily\t1\t3\t428571428572\t300\t330\t660\ndaily\t2\t4\t571428571429\t400\t440\t880\ntotal\t7\t1000000000001\t700\t770\t1540\nfund\t1\t7\t100000000\ncontribution\t1\t4\t50000000\t100000000\ncontribution\t2\t5\t50000000\t100000000\n")
-    -- member 32
-    ∷ ("period\t32\t1\nmember\t1\t0\nmember\t2\t0\nmember\t3\t0\nmember\t4\t0\nmember\t5\t0\nmember\t6\t0\nmember\t7\t0\nmember\t8\t0\nmember\t9\t0\nmember\t10\t0\nmember\t11\t0\nmember\t12\t0\nmember\t13\t0\nmember\t14\t0\nmember\t15\t0\nmember\t16\t0\nmember\t17\t0\nmember\t18\t0\nmember\t19\t0\nmember\t20\t0\nmember\t21\t0\nmember\t22\t0\nmember\t23\t0\nmember\t24\t0\nmember\t25\t0\nmember\t26\t0\nmember\t27\t0\nmember\t28\t0\nmember\t29\t0\nmember\t30\t0\nmember\t31\t32\nmember\t32\t32\nday\t31\t32\nacct\t1\t0\tH\t1\t0\t0\t0\nacct\t2\t0\tH\t1\t0\t0\t0\nacct\t3\t0\tH\t1\t0\t0\t0\nacct\t4\t0\tH\t1\t0\t0\t0\nacct\t5\t0\tH\t1\t0\t0\t0\nacct\t6\t0\tH\t1\t0\t0\t0\nacct\t7\t0\tH\t1\t0\t0\t0\nacct\t8\t0\tH\t1\t0\t0\t0\nacct\t9\t0\tH\t1\t0\t0\t0\nacct\t10\t0\tH\t1\t0\t0\t0\nacct\t11\t0\tH\t1\t0\t0\t0\nacct\t12\t0\tH\t1\t0\t0\t0\nacct\t13\t0\tH\t1\t0\t0\t0\nacct\t14\t0\tH\t1\t0\t0\t0\nacct\t15\t0\tH\t1\t0\t0\t0\nacct\t16\t0\tH\t1\t0\t0\t0\nacct\t17\t0\tH\t1\t0\t0\t0\nacct\t18\t0\tH\t1\t0\t0\t0\nacct\t19\t0\tH\t1\t0\t0\t0\nacct\t20\t0\tH\t1\t0\t0\t0\nacct\t21\t0\tH\t1\t0\t0\t0\nacct\t22\t0\tH\t1\t0\t0\t0\nacct\t23\t0\tH\t1\t0\t0\t0\nacct\t24\t0\tH\t1\t0\t0\t0\nacct\t25\t0\tH\t1\t0\t0\t0\nacct\t26\t0\tH\t1\t0\t0\t0\nacct\t27\t0\tH\t1\t0\t0\t0\nacct\t28\t0\tH\t1\t0\t0\t0\nacct\t29\t0\tH\t1\t0\t0\t0\nacct\t30\t0\tH\t1\t0\t0\t0\nacct\t31\t0\tH\t1\t0\t0\t0\nacct\t32\t0\tH\t9\t0\t0\t0\nend\n" gives "day\t31\t40\t10\ndaily\t1\t1\t25000000000\t25\t28\t55\ndaily\t2\t1\t25000000000\t25\t28\t55\ndaily\t3\t1\t25000000000\t25\t28\t55\ndaily\t4\t1\t25000000000\t25\t28\t55\ndaily\t5\t1\t25000000000\t25\t28\t55\ndaily\t6\t1\t25000000000\t25\t28\t55\ndaily\t7\t1\t25000000000\t25\t28\t55\ndaily\t8\t1\t25000000000\t25\t28\t55\ndaily\t9\t1\t25000000000\t25\t28\t55\ndaily\t10\t1\t25000000000\t25\t28\t55\ndaily\t11\t1\t25000000000\t25\t28\t55\ndaily\t12\t1\t25000000000\t25\t28\t55\ndaily\t13\t1\t25000000000\t25\t28\t55\ndaily\t14\t1\t25000000000\t25\t28\t55\ndaily\t15\t1\t25000000000\t25\t28\t55\ndaily\t16\t1\t25000000000\t25\t28\t55\ndaily\t17\t1\t25000000000\t25\t28\t55\ndaily\t18\t1\t25000000000\t25\t28\t55\ndaily\t19\t1\t25000000000\t25\t28\t55\ndaily\t20\t1\t25000000000\t25\t28\t55\ndaily\t21\t1\t25000000000\t25\t28\t55\ndaily\t22\t1\t25000000000\t25\t28\t55\ndaily\t23\t1\t25000000000\t25\t28\t55\ndaily\t24\t1\t25000000000\t25\t28\t55\ndaily\t25\t1\t25000000000\t25\t28\t55\ndaily\t26\t1\t25000000000\t25\t28\t55\ndaily\t27\t1\t25000000000\t25\t28\t55\ndaily\t28\t1\t25000000000\t25\t28\t55\ndaily\t29\t1\t25000000000\t25\t28\t55\ndaily\t30\t1\t25000000000\t25\t28\t55\ndaily\t31\t1\t25000000000\t25\t28\t55\ndaily\t32\t9\t225000000000\t225\t248\t495\ntotal\t40\t1000000000000\t1000\t1116\t2200\nfund\t1\t10\t1600000000\ncontribution\t1\t1\t50000000\t100000000\ncontribution\t2\t1\t50000000\t100000000\ncontribution\t3\t1\t50000000\t100000000\ncontribution\t4\t1\t50000000\t100000000\ncontribution\t5\t1\t50000000\t100000000\ncontribution\t6\t1\t50000000\t100000000\ncontribution\t7\t1\t50000000\t100000000\ncontribution\t8\t1\t50000000\t100000000\ncontribution\t9\t1\t50000000\t100000000\ncontribution\t10\t1\t50000000\t100000000\ncontribution\t11\t1\t50000000\t100000000\ncontribution\t12\t1\t50000000\t100000000\ncontribution\t13\t1\t50000000\t100000000\ncontribution\t14\t1\t50000000\t100000000\ncontribution\t15\t1\t50000000\t100000000\ncontribution\t16\t1\t50000000\t100000000\ncontribution\t17\t1\t50000000\t100000000\ncontribution\t18\t1\t50000000\t100000000\ncontribution\t19\t1\t50000000\t100000000\ncontribution\t20\t1\t50000000\t100000000\ncontribution\t21\t1\t50000000\t100000000\ncontribution\t22\t1\t50000000\t100000000\ncontribution\t23\t1\t50000000\t100000000\ncontribution\t24\t1\t50000000\t100000000\ncontribution\t25\t1\t50000000\t100000000\ncontribution\t26\t1\t50000000\t100000000\ncontribution\t27\t1\t50000000\t100000000\ncontribution\t28\t1\t50000000\t100000000\ncontribution\t29\t1\t50000000\t100000000\ncontribution\t30\t1\t50000000\t100000000\ncontribution\t31\t1\t50000000\t100000000\ncontribution\t32\t3\t50000000\t100000000\n")
+    -- 32 members, each with a loss of its own
+    ∷ ("period\t32\t1\nmember\t1\t0\nmember\t2\t0\nmember\t3\t0\nmember\t4\t0\nmember\t5\t0\nmember\t6\t0\nmember\t7\t0\nmember\t8\t0\nmember\t9\t0\nmember\t10\t0\nmember\t11\t0\nmember\t12\t0\nmember\t13\t0\nmember\t14\t0\nmember\t15\t0\nmember\t16\t0\nmember\t17\t0\nmember\t18\t0\nmember\t19\t0\nmember\t20\t0\nmember\t21\t0\nmember\t22\t0\nmember\t23\t0\nmember\t24\t0\nmember\t25\t0\nmember\t26\t0\nmember\t27\t0\nmember\t28\t0\nmember\t29\t0\nmember\t30\t0\nmember\t31\t32\nmember\t32\t32\nday\t31\t32\nacct\t1\t0\tH\t1\t0\t0\t0\nacct\t2\t0\tH\t4\t0\t0\t0\nacct\t3\t0\tH\t9\t0\t0\t0\nacct\t4\t0\tH\t16\t0\t0\t0\nacct\t5\t0\tH\t25\t0\t0\t0\nacct\t6\t0\tH\t36\t0\t0\t0\nacct\t7\t0\tH\t49\t0\t0\t0\nacct\t8\t0\tH\t64\t0\t0\t0\nacct\t9\t0\tH\t81\t0\t0\t0\nacct\t10\t0\tH\t100\t0\t0\t0\nacct\t11\t0\tH\t121\t0\t0\t0\nacct\t12\t0\tH\t144\t0\t0\t0\nacct\t13\t0\tH\t169\t0\t0\t0\nacct\t14\t0\tH\t196\t0\t0\t0\nacct\t15\t0\tH\t225\t0\t0\t0\nacct\t16\t0\tH\t256\t0\t0\t0\nacct\t17\t0\tH\t289\t0\t0\t0\nacct\t18\t0\tH\t324\t0\t0\t0\nacct\t19\t0\tH\t361\t0\t0\t0\nacct\t20\t0\tH\t400\t0\t0\t0\nacct\t21\t0\tH\t441\t0\t0\t0\nacct\t22\t0\tH\t484\t0\t0\t0\nacct\t23\t0\tH\t529\t0\t0\t0\nacct\t24\t0\tH\t576\t0\t0\t0\nacct\t25\t0\tH\t625\t0\t0\t0\nacct\t26\t0\tH\t676\t0\t0\t0\nacct\t27\t0\tH\t729\t0\t0\t0\nacct\t28\t0\tH\t784\t0\t0\t0\nacct\t29\t0\tH\t841\t0\t0\t0\nacct\t30\t0\tH\t900\t0\t0\t0\nacct\t31\t0\tH\t961\t0\t0\t0\nacct\t32\t0\tH\t1024\t0\t0\t0\nend\n" gives "day\t31\t11440\t1985\ndaily\t1\t1\t87412588\t17\t19\t38\ndaily\t2\t4\t349650350\t69\t76\t153\ndaily\t3\t9\t786713287\t156\t172\t344\ndaily\t4\t16\t1398601399\t278\t305\t611\ndaily\t5\t25\t2185314686\t434\t477\t954\ndaily\t6\t36\t3146853147\t625\t687\t1374\ndaily\t7\t49\t4283216784\t850\t935\t1870\ndaily\t8\t64\t5594405595\t1110\t1222\t2443\ndaily\t9\t81\t7080419581\t1405\t1546\t3092\ndaily\t10\t100\t8741258742\t1735\t1909\t3817\ndaily\t11\t121\t10576923077\t2100\t2309\t4619\ndaily\t12\t144\t12587412588\t2499\t2748\t5497\ndaily\t13\t169\t14772727273\t2932\t3226\t6451\ndaily\t14\t196\t17132867133\t3401\t3741\t7482\ndaily\t15\t225\t19667832168\t3904\t4294\t8589\ndaily\t16\t256\t22377622378\t4442\t4886\t9772\ndaily\t17\t289\t25262237763\t5015\t5516\t11032\ndaily\t18\t324\t28321678322\t5622\t6184\t12368\ndaily\t19\t361\t31555944056\t6264\t6890\t13780\ndaily\t20\t400\t34965034966\t6941\t7635\t15269\ndaily\t21\t441\t38548951049\t7652\t8417\t16834\ndaily\t22\t484\t42307692308\t8398\t9238\t18476\ndaily\t23\t529\t46241258742\t9179\t10097\t20194\ndaily\t24\t576\t50349650350\t9994\t10994\t21988\ndaily\t25\t625\t54632867133\t10845\t11929\t23858\ndaily\t26\t676\t59090909091\t11730\t12903\t25805\ndaily\t27\t729\t63723776224\t12649\t13914\t27828\ndaily\t28\t784\t68531468532\t13603\t14964\t29928\ndaily\t29\t841\t73513986014\t14593\t16052\t32104\ndaily\t30\t900\t78671328672\t15616\t17178\t34356\ndaily\t31\t961\t84003496504\t16675\t18342\t36684\ndaily\t32\t1024\t89510489511\t17768\t19545\t39089\ntotal\t11440\t1000000000013\t198501\t218350\t436699\nfund\t1\t1985\t1600000000\ncontribution\t1\t1\t50000000\t100000000\ncontribution\t2\t1\t50000000\t100000000\ncontribution\t3\t2\t50000000\t100000000\ncontribution\t4\t4\t50000000\t100000000\ncontribution\t5\t5\t50000000\t100000000\ncontribution\t6\t7\t50000000\t100000000\ncontribution\t7\t10\t50000000\t100000000\ncontribution\t8\t13\t50000000\t100000000\ncontribution\t9\t16\t50000000\t100000000\ncontribution\t10\t20\t50000000\t100000000\ncontribution\t11\t24\t50000000\t100000000\ncontribution\t12\t28\t50000000\t100000000\ncontribution\t13\t33\t50000000\t100000000\ncontribution\t14\t38\t50000000\t100000000\ncontribution\t15\t43\t50000000\t100000000\ncontribution\t16\t49\t50000000\t100000000\ncontribution\t17\t56\t50000000\t100000000\ncontribution\t18\t62\t50000000\t100000000\ncontribution\t19\t69\t50000000\t100000000\ncontribution\t20\t77\t50000000\t100000000\ncontribution\t21\t85\t50000000\t100000000\ncontribution\t22\t93\t50000000\t100000000\ncontribution\t23\t101\t50000000\t100000000\ncontribution\t24\t110\t50000000\t100000000\ncontribution\t25\t120\t50000000\t100000000\ncontribution\t26\t130\t50000000\t100000000\ncontribution\t27\t140\t50000000\t100000000\ncontribution\t28\t150\t50000000\t100000000\ncontribution\t29\t161\t50000000\t100000000\ncontribution\t30\t172\t50000000\t100000000\ncontribution\t31\t184\t50000000\t100000000\ncontribution\t32\t196\t50000000\t100000000\n")
+    -- 31 days, each with a loss of its own, the first of a dollar
+    ∷ ("period\t1\t1\nmember\t1\t0\nday\t1\t1\nacct\t1\t0\tH\t1\t0\t0\t0\nday\t2\t1\nacct\t1\t0\tH\t4\t0\t0\t0\nday\t3\t1\nacct\t1\t0\tH\t9\t0\t0\t0\nday\t4\t1\nacct\t1\t0\tH\t16\t0\t0\t0\nday\t5\t1\nacct\t1\t0\tH\t25\t0\t0\t0\nday\t6\t1\nacct\t1\t0\tH\t36\t0\t0\t0\nday\t7\t1\nacct\t1\t0\tH\t49\t0\t0\t0\nday\t8\t1\nacct\t1\t0\tH\t64\t0\t0\t0\nday\t9\t1\nacct\t1\t0\tH\t81\t0\t0\t0\nday\t10\t1\nacct\t1\t0\tH\t100\t0\t0\t0\nday\t11\t1\nacct\t1\t0\tH\t121\t0\t0\t0\nday\t12\t1\nacct\t1\t0\tH\t144\t0\t0\t0\nday\t13\t1\nacct\t1\t0\tH\t169\t0\t0\t0\nday\t14\t1\nacct\t1\t0\tH\t196\t0\t0\t0\nday\t15\t1\nacct\t1\t0\tH\t225\t0\t0\t0\nday\t16\t1\nacct\t1\t0\tH\t256\t0\t0\t0\nday\t17\t1\nacct\t1\t0\tH\t289\t0\t0\t0\nday\t18\t1\nacct\t1\t0\tH\t324\t0\t0\t0\nday\t19\t1\nacct\t1\t0\tH\t361\t0\t0\t0\nday\t20\t1\nacct\t1\t0\tH\t400\t0\t0\t0\nday\t21\t1\nacct\t1\t0\tH\t441\t0\t0\t0\nday\t22\t1\nacct\t1\t0\tH\t484\t0\t0\t0\nday\t23\t1\nacct\t1\t0\tH\t529\t0\t0\t0\nday\t24\t1\nacct\t1\t0\tH\t576\t0\t0\t0\nday\t25\t1\nacct\t1\t0\tH\t625\t0\t0\t0\nday\t26\t1\nacct\t1\t0\tH\t676\t0\t0\t0\nday\t27\t1\nacct\t1\t0\tH\t729\t0\t0\t0\nday\t28\t1\nacct\t1\t0\tH\t784\t0\t0\t0\nday\t29\t1\nacct\t1\t0\tH\t841\t0\t0\t0\nday\t30\t1\nacct\t1\t0\tH\t900\t0\t0\t0\nday\t31\t1\nacct\t1\t0\tH\t961\t0\t0\t0\nend\n" gives "day\t1\t1\t1\ndaily\t1\t1\t1000000000000\t100\t110\t220\ntotal\t1\t1000000000000\t100\t110\t220\nday\t2\t4\t4\ndaily\t1\t4\t1000000000000\t400\t440\t880\ntotal\t4\t1000000000000\t400\t440\t880\nday\t3\t9\t9\ndaily\t1\t9\t1000000000000\t900\t990\t1980\ntotal\t9\t1000000000000\t900\t990\t1980\nday\t4\t16\t16\ndaily\t1\t16\t1000000000000\t1600\t1760\t3520\ntotal\t16\t1000000000000\t1600\t1760\t3520\nday\t5\t25\t25\ndaily\t1\t25\t1000000000000\t2500\t2750\t5500\ntotal\t25\t1000000000000\t2500\t2750\t5500\nday\t6\t36\t36\ndaily\t1\t36\t1000000000000\t3600\t3960\t7920\ntotal\t36\t1000000000000\t3600\t3960\t7920\nday\t7\t49\t49\ndaily\t1\t49\t1000000000000\t4900\t5390\t10780\ntotal\t49\t1000000000000\t4900\t5390\t10780\nday\t8\t64\t64\ndaily\t1\t64\t1000000000000\t6400\t7040\t14080\ntotal\t64\t1000000000000\t6400\t7040\t14080\nday\t9\t81\t81\ndaily\t1\t81\t1000000000000\t8100\t8910\t17820\ntotal\t81\t1000000000000\t8100\t8910\t17820\nday\t10\t100\t100\ndaily\t1\t100\t1000000000000\t10000\t11000\t22000\ntotal\t100\t1000000000000\t10000\t11000\t22000\nday\t11\t121\t121\ndaily\t1\t121\t1000000000000\t12100\t13310\t26620\ntotal\t121\t1000000000000\t12100\t13310\t26620\nday\t12\t144\t144\ndaily\t1\t144\t1000000000000\t14400\t15840\t31680\ntotal\t144\t1000000000000\t14400\t15840\t31680\nday\t13\t169\t169\ndaily\t1\t169\t1000000000000\t16900\t18590\t37180\ntotal\t169\t1000000000000\t16900\t18590\t37180\nday\t14\t196\t196\ndaily\t1\t196\t1000000000000\t19600\t21560\t43120\ntotal\t196\t1000000000000\t19600\t21560\t43120\nday\t15\t225\t225\ndaily\t1\t225\t1000000000000\t22500\t24750\t49500\ntotal\t225\t1000000000000\t22500\t24750\t49500\nday\t16\t256\t256\ndaily\t1\t256\t1000000000000\t25600\t28160\t56320\ntotal\t256\t1000000000000\t25600\t28160\t56320\nday\t17\t289\t289\ndaily\t1\t289\t1000000000000\t28900\t31790\t63580\ntotal\t289\t1000000000000\t28900\t31790\t63580\nday\t18\t324\t324\ndaily\t1\t324\t1000000000000\t32400\t35640\t71280\ntotal\t324\t1000000000000\t32400\t35640\t71280\nday\t19\t361\t361\ndaily\t1\t361\t1000000000000\t36100\t39710\t79420\ntotal\t361\t1000000000000\t36100\t39710\t79420\nday\t20\t400\t400\ndaily\t1\t400\t1000000000000\t40000\t44000\t88000\ntotal\t400\t1000000000000\t40000\t44000\t88000\nday\t21\t441\t441\ndaily\t1\t441\t1000000000000\t44100\t48510\t97020\ntotal\t441\t1000000000000\t44100\t48510\t97020\nday\t22\t484\t484\ndaily\t1\t484\t1000000000000\t48400\t53240\t106480\ntotal\t484\t1000000000000\t48400\t53240\t106480\nday\t23\t529\t529\ndaily\t1\t529\t1000000000000\t52900\t58190\t116380\ntotal\t529\t1000000000000\t52900\t58190\t116380\nday\t24\t576\t576\ndaily\t1\t576\t1000000000000\t57600\t63360\t126720\ntotal\t576\t1000000000000\t57600\t63360\t126720\nday\t25\t625\t625\ndaily\t1\t625\t1000000000000\t62500\t68750\t137500\ntotal\t625\t1000000000000\t62500\t68750\t137500\nday\t26\t676\t676\ndaily\t1\t676\t1000000000000\t67600\t74360\t148720\ntotal\t676\t1000000000000\t67600\t74360\t148720\nday\t27\t729\t729\ndaily\t1\t729\t1000000000000\t72900\t80190\t160380\ntotal\t729\t1000000000000\t72900\t80190\t160380\nday\t28\t784\t784\ndaily\t1\t784\t1000000000000\t78400\t86240\t172480\ntotal\t784\t1000000000000\t78400\t86240\t172480\nday\t29\t841\t841\ndaily\t1\t841\t1000000000000\t84100\t92510\t185020\ntotal\t841\t1000000000000\t84100\t92510\t185020\nday\t30\t900\t900\ndaily\t1\t900\t1000000000000\t90000\t99000\t198000\ntotal\t900\t1000000000000\t90000\t99000\t198000\nday\t31\t961\t961\ndaily\t1\t961\t1000000000000\t96100\t105710\t211420\ntotal\t961\t1000000000000\t96100\t105710\t211420\nfund\t31\t961\t50000000\ncontribution\t1\t1058\t50000000\t100000000\n")
+    -- two days of one Max EUL and unlike T
+    ∷ ("period\t2\t1\nmember\t1\t0\nmember\t2\t0\nday\t1\t2\nacct\t1\t0\tH\t10\t0\t0\t0\nacct\t2\t0\tH\t0\t0\t0\t0\nday\t2\t2\nacct\t1\t0\tH\t10\t0\t0\t0\nacct\t2\t0\tH\t5\t0\t0\t0\nend\n" gives "day\t1\t10\t10\ndaily\t1\t10\t1000000000000\t1000\t1100\t2200\ndaily\t2\t0\t0\t0\t0\t0\ntotal\t10\t1000000000000\t1000\t1100\t2200\nday\t2\t15\t10\ndaily\t1\t10\t666666666667\t667\t733\t1467\ndaily\t2\t5\t333333333334\t333\t367\t733\ntotal\t15\t1000000000001\t1000\t1100\t2200\nfund\t2\t10\t100000000\ncontribution\t1\t10\t50000000\t100000000\ncontribution\t2\t2\t50000000\t100000000\n")
+    -- sums of 18 digits
+    ∷ ("period\t1\t1\nmember\t1\t0\nday\t3\t161\nacct\t1\t0\tH\t1\t0\t0\t0\nacct\t1\t1\tU\t999999999993\t0\t0\t-999999999997\nacct\t1\t2\tU\t999999999986\t0\t0\t-999999999994\nacct\t1\t3\tU\t999999999979\t0\t0\t-999999999991\nacct\t1\t4\tU\t999999999972\t0\t0\t-999999999988\nacct\t1\t5\tU\t999999999965\t0\t0\t-999999999985\nacct\t1\t6\tU\t999999999958\t0\t0\t-999999999982\nacct\t1\t7\tU\t999999999951\t0\t0\t-999999999979\nacct\t1\t8\tU\t999999999944\t0\t0\t-999999999976\nacct\t1\t9\tU\t999999999937\t0\t0\t-999999999973\nacct\t1\t10\tU\t999999999930\t0\t0\t-999999999970\nacct\t1\t11\tU\t999999999923\t0\t0\t-999999999967\nacct\t1\t12\tU\t999999999916\t0\t0\t-999999999964\nacct\t1\t13\tU\t999999999909\t0\t0\t-999999999961\nacct\t1\t14\tU\t999999999902\t0\t0\t-999999999958\nacct\t1\t15\tU\t999999999895\t0\t0\t-999999999955\nacct\t1\t16\tU\t999999999888\t0\t0\t-999999999952\nacct\t1\t17\tU\t999999999881\t0\t0\t-999999999949\nacct\t1\t18\tU\t999999999874\t0\t0\t-999999999946\nacct\t1\t19\tU\t999999999867\t0\t0\t-999999999943\nacct\t1\t20\tU\t999999999860\t0\t0\t-999999999940\nacct\t1\t21\tU\t999999999853\t0\t0\t-999999999937\nacct\t1\t22\tU\t999999999846\t0\t0\t-999999999934\nacct\t1\t23\tU\t999999999839\t0\t0\t-999999999931\nacct\t1\t24\tU\t999999999832\t0\t0\t-999999999928\nacct\t1\t25\tU\t999999999825\t0\t0\t-999999999925\nacct\t1\t26\tU\t999999999818\t0\t0\t-999999999922\nacct\t1\t27\tU\t999999999811\t0\t0\t-999999999919\nacct\t1\t28\tU\t999999999804\t0\t0\t-999999999916\nacct\t1\t29\tU\t999999999797\t0\t0\t-999999999913\nacct\t1\t30\tU\t999999999790\t0\t0\t-999999999910\nacct\t1\t31\tU\t999999999783\t0\t0\t-999999999907\nacct\t1\t32\tU\t999999999776\t0\t0\t-999999999904\nacct\t1\t33\tU\t999999999769\t0\t0\t-999999999901\nacct\t1\t34\tU\t999999999762\t0\t0\t-999999999898\nacct\t1\t35\tU\t999999999755\t0\t0\t-999999999895\nacct\t1\t36\tU\t999999999748\t0\t0\t-999999999892\nacct\t1\t37\tU\t999999999741\t0\t0\t-999999999889\nacct\t1\t38\tU\t999999999734\t0\t0\t-999999999886\nacct\t1\t39\tU\t999999999727\t0\t0\t-999999999883\nacct\t1\t40\tU\t999999999720\t0\t0\t-999999999880\nacct\t1\t41\tU\t999999999713\t0\t0\t-999999999877\nacct\t1\t42\tU\t999999999706\t0\t0\t-999999999874\nacct\t1\t43\tU\t999999999699\t0\t0\t-999999999871\nacct\t1\t44\tU\t999999999692\t0\t0\t-999999999868\nacct\t1\t45\tU\t999999999685\t0\t0\t-999999999865\nacct\t1\t46\tU\t999999999678\t0\t0\t-999999999862\nacct\t1\t47\tU\t999999999671\t0\t0\t-999999999859\nacct\t1\t48\tU\t999999999664\t0\t0\t-999999999856\nacct\t1\t49\tU\t999999999657\t0\t0\t-999999999853\nacct\t1\t50\tU\t999999999650\t0\t0\t-999999999850\nacct\t1\t51\tU\t999999999643\t0\t0\t-999999999847\nacct\t1\t52\tU\t999999999636\t0\t0\t-999999999844\nacct\t1\t53\tU\t999999999629\t0\t0\t-999999999841\nacct\t1\t54\tU\t999999999622\t0\t0\t-999999999838\nacct\t1\t55\tU\t999999999615\t0\t0\t-999999999835\nacct\t1\t56\tU\t999999999608\t0\t0\t-999999999832\nacct\t1\t57\tU\t999999999601\t0\t0\t-999999999829\nacct\t1\t58\tU\t999999999594\t0\t0\t-999999999826\nacct\t1\t59\tU\t999999999587\t0\t0\t-999999999823\nacct\t1\t60\tU\t999999999580\t0\t0\t-999999999820\nacct\t1\t61\tU\t999999999573\t0\t0\t-999999999817\nacct\t1\t62\tU\t999999999566\t0\t0\t-999999999814\nacct\t1\t63\tU\t999999999559\t0\t0\t-999999999811\nacct\t1\t64\tU\t999999999552\t0\t0\t-999999999808\nacct\t1\t65\tU\t999999999545\t0\t0\t-999999999805\nacct\t1\t66\tU\t999999999538\t0\t0\t-999999999802\nacct\t1\t67\tU\t999999999531\t0\t0\t-999999999799\nacct\t1\t68\tU\t999999999524\t0\t0\t-999999999796\nacct\t1\t69\tU\t999999999517\t0\t0\t-999999999793\nacct\t1\t70\tU\t999999999510\t0\t0\t-999999999790\nacct\t1\t71\tU\t999999999503\t0\t0\t-999999999787\nacct\t1\t72\tU\t999999999496\t0\t0\t-999999999784\nacct\t1\t73\tU\t999999999489\t0\t0\t-999999999781\nacct\t1\t74\tU\t999999999482\t0\t0\t-999999999778\nacct\t1\t75\tU\t999999999475\t0\t0\t-999999999775\nacct\t1\t76\tU\t999999999468\t0\t0\t-999999999772\nacct\t1\t77\tU\t999999999461\t0\t0\t-999999999769\nacct\t1\t78\tU\t999999999454\t0\t0\t-999999999766\nacct\t1\t79\tU\t999999999447\t0\t0\t-999999999763\nacct\t1\t80\tU\t999999999440\t0\t0\t-999999999760\nacct\t1\t81\tU\t999999999433\t0\t0\t-999999999757\nacct\t1\t82\tU\t999999999426\t0\t0\t-999999999754\nacct\t1\t83\tU\t999999999419\t0\t0\t-999999999751\nacct\t1\t84\tU\t999999999412\t0\t0\t-999999999748\nacct\t1\t85\tU\t999999999405\t0\t0\t-999999999745\nacct\t1\t86\tU\t999999999398\t0\t0\t-999999999742\nacct\t1\t87\tU\t999999999391\t0\t0\t-999999999739\nacct\t1\t88\tU\t999999999384\t0\t0\t-999999999736\nacct\t1\t89\tU\t999999999377\t0\t0\t-999999999733\nacct\t1\t90\tU\t999999999370\t0\t0\t-999999999730\nacct\t1\t91\tU\t999999999363\t0\t0\t-999999999727\nacct\t1\t92\tU\t999999999356\t0\t0\t-999999999724\nacct\t1\t93\tU\t999999999349\t0\t0\t-999999999721\nacct\t1\t94\tU\t999999999342\t0\t0\t-999999999718\nacct\t1\t95\tU\t999999999335\t0\t0\t-999999999715\nacct\t1\t96\tU\t999999999328\t0\t0\t-999999999712\nacct\t1\t97\tU\t999999999321\t0\t0\t-999999999709\nacct\t1\t98\tU\t999999999314\t0\t0\t-999999999706\nacct\t1\t99\tU\t999999999307\t0\t0\t-999999999703\nacct\t1\t100\tU\t999999999300\t0\t0\t-999999999700\nacct\t1\t101\tU\t999999999293\t0\t0\t-999999999697\nacct\t1\t102\tU\t999999999286\t0\t0\t-999999999694\nacct\t1\t103\tU\t999999999279\t0\t0\t-999999999691\nacct\t1\t104\tU\t999999999272\t0\t0\t-999999999688\nacct\t1\t105\tU\t999999999265\t0\t0\t-999999999685\nacct\t1\t106\tU\t999999999258\t0\t0\t-999999999682\nacct\t1\t107\tU\t999999999251\t0\t0\t-999999999679\nacct\t1\t108\tU\t999999999244\t0\t0\t-999999999676\nacct\t1\t109\tU\t999999999237\t0\t0\t-999999999673\nacct\t1\t110\tU\t999999999230\t0\t0\t-999999999670\nacct\t1\t111\tU\t999999999223\t0\t0\t-999999999667\nacct\t1\t112\tU\t999999999216\t0\t0\t-999999999664\nacct\t1\t113\tU\t999999999209\t0\t0\t-999999999661\nacct\t1\t114\tU\t999999999202\t0\t0\t-999999999658\nacct\t1\t115\tU\t999999999195\t0\t0\t-999999999655\nacct\t1\t116\tU\t999999999188\t0\t0\t-999999999652\nacct\t1\t117\tU\t999999999181\t0\t0\t-999999999649\nacct\t1\t118\tU\t999999999174\t0\t0\t-999999999646\nacct\t1\t119\tU\t999999999167\t0\t0\t-999999999643\nacct\t1\t120\tU\t999999999160\t0\t0\t-999999999640\nacct\t1\t121\tU\t999999999153\t0\t0\t-999999999637\nacct\t1\t122\tU\t999999999146\t0\t0\t-999999999634\nacct\t1\t123\tU\t999999999139\t0\t0\t-999999999631\nacct\t1\t124\tU\t999999999132\t0\t0\t-999999999628\nacct\t1\t125\tU\t999999999125\t0\t0\t-999999999625\nacct\t1\t126\tU\t999999999118\t0\t0\t-999999999622\nacct\t1\t127\tU\t999999999111\t0\t0\t-999999999619\nacct\t1\t128\tU\t999999999104\t0\t0\t-999999999616\nacct\t1\t129\tU\t999999999097\t0\t0\t-999999999613\nacct\t1\t130\tU\t999999999090\t0\t0\t-999999999610\nacct\t1\t131\tU\t999999999083\t0\t0\t-999999999607\nacct\t1\t132\tU\t999999999076\t0\t0\t-999999999604\nacct\t1\t133\tU\t999999999069\t0\t0\t-999999999601\nacct\t1\t134\tU\t999999999062\t0\t0\t-999999999598\nacct\t1\t135\tU\t999999999055\t0\t0\t-999999999595\nacct\t1\t136\tU\t999999999048\t0\t0\t-999999999592\nacct\t1\t137\tU\t999999999041\t0\t0\t-999999999589\nacct\t1\t138\tU\t999999999034\t0\t0\t-999999999586\nacct\t1\t139\tU\t999999999027\t0\t0\t-999999999583\nacct\t1\t140\tU\t999999999020\t0\t0\t-999999999580\nacct\t1\t141\tU\t999999999013\t0\t0\t-999999999577\nacct\t1\t142\tU\t999999999006\t0\t0\t-999999999574\nacct\t1\t143\tU\t999999998999\t0\t0\t-999999999571\nacct\t1\t144\tU\t999999998992\t0\t0\t-999999999568\nacct\t1\t145\tU\t999999998985\t0\t0\t-999999999565\nacct\t1\t146\tU\t999999998978\t0\t0\t-999999999562\nacct\t1\t147\tU\t999999998971\t0\t0\t-999999999559\nacct\t1\t148\tU\t999999998964\t0\t0\t-999999999556\nacct\t1\t149\tU\t999999998957\t0\t0\t-999999999553\nacct\t1\t150\tU\t999999998950\t0\t0\t-999999999550\nacct\t1\t151\tU\t999999998943\t0\t0\t-999999999547\nacct\t1\t152\tU\t999999998936\t0\t0\t-999999999544\nacct\t1\t153\tU\t999999998929\t0\t0\t-999999999541\nacct\t1\t154\tU\t999999998922\t0\t0\t-999999999538\nacct\t1\t155\tU\t999999998915\t0\t0\t-999999999535\nacct\t1\t156\tU\t999999998908\t0\t0\t-999999999532\nacct\t1\t157\tU\t999999998901\t0\t0\t-999999999529\nacct\t1\t158\tU\t999999998894\t0\t0\t-999999999526\nacct\t1\t159\tU\t999999998887\t0\t0\t-999999999523\nacct\t1\t160\tU\t999999998880\t0\t0\t-999999999520\nend\n" gives "day\t3\t479999999806801\t479999999806801\ndaily\t1\t479999999806801\t1000000000000\t47999999980680100\t52799999978748110\t105599999957496220\ntotal\t479999999806801\t1000000000000\t47999999980680100\t52799999978748110\t105599999957496220\nfund\t1\t479999999806801\t527999999787482\ncontribution\t1\t527999999787482\t527999999787482\t1055999999574964\n")
     -- 5 at account 255
     ∷ ("period\t1\t1\nmember\t1\t0\nday\t1\t256\nacct\t1\t0\tH\t1\t0\t0\t0\nacct\t1\t1\tU\t1\t0\t0\t0\nacct\t1\t2\tU\t1\t0\t0\t0\nacct\t1\t3\tU\t1\t0\t0\t0\nacct\t1\t4\tU\t1\t0\t0\t0\nacct\t1\t5\tU\t1\t0\t0\t0\nacct\t1\t6\tU\t1\t0\t0\t0\nacct\t1\t7\tU\t1\t0\t0\t0\nacct\t1\t8\tU\t1\t0\t0\t0\nacct\t1\t9\tU\t1\t0\t0\t0\nacct\t1\t10\tU\t1\t0\t0\t0\nacct\t1\t11\tU\t1\t0\t0\t0\nacct\t1\t12\tU\t1\t0\t0\t0\nacct\t1\t13\tU\t1\t0\t0\t0\nacct\t1\t14\tU\t1\t0\t0\t0\nacct\t1\t15\tU\t1\t0\t0\t0\nacct\t1\t16\tU\t1\t0\t0\t0\nacct\t1\t17\tU\t1\t0\t0\t0\nacct\t1\t18\tU\t1\t0\t0\t0\nacct\t1\t19\tU\t1\t0\t0\t0\nacct\t1\t20\tU\t1\t0\t0\t0\nacct\t1\t21\tU\t1\t0\t0\t0\nacct\t1\t22\tU\t1\t0\t0\t0\nacct\t1\t23\tU\t1\t0\t0\t0\nacct\t1\t24\tU\t1\t0\t0\t0\nacct\t1\t25\tU\t1\t0\t0\t0\nacct\t1\t26\tU\t1\t0\t0\t0\nacct\t1\t27\tU\t1\t0\t0\t0\nacct\t1\t28\tU\t1\t0\t0\t0\nacct\t1\t29\tU\t1\t0\t0\t0\nacct\t1\t30\tU\t1\t0\t0\t0\nacct\t1\t31\tU\t1\t0\t0\t0\nacct\t1\t32\tU\t1\t0\t0\t0\nacct\t1\t33\tU\t1\t0\t0\t0\nacct\t1\t34\tU\t1\t0\t0\t0\nacct\t1\t35\tU\t1\t0\t0\t0\nacct\t1\t36\tU\t1\t0\t0\t0\nacct\t1\t37\tU\t1\t0\t0\t0\nacct\t1\t38\tU\t1\t0\t0\t0\nacct\t1\t39\tU\t1\t0\t0\t0\nacct\t1\t40\tU\t1\t0\t0\t0\nacct\t1\t41\tU\t1\t0\t0\t0\nacct\t1\t42\tU\t1\t0\t0\t0\nacct\t1\t43\tU\t1\t0\t0\t0\nacct\t1\t44\tU\t1\t0\t0\t0\nacct\t1\t45\tU\t1\t0\t0\t0\nacct\t1\t46\tU\t1\t0\t0\t0\nacct\t1\t47\tU\t1\t0\t0\t0\nacct\t1\t48\tU\t1\t0\t0\t0\nacct\t1\t49\tU\t1\t0\t0\t0\nacct\t1\t50\tU\t1\t0\t0\t0\nacct\t1\t51\tU\t1\t0\t0\t0\nacct\t1\t52\tU\t1\t0\t0\t0\nacct\t1\t53\tU\t1\t0\t0\t0\nacct\t1\t54\tU\t1\t0\t0\t0\nacct\t1\t55\tU\t1\t0\t0\t0\nacct\t1\t56\tU\t1\t0\t0\t0\nacct\t1\t57\tU\t1\t0\t0\t0\nacct\t1\t58\tU\t1\t0\t0\t0\nacct\t1\t59\tU\t1\t0\t0\t0\nacct\t1\t60\tU\t1\t0\t0\t0\nacct\t1\t61\tU\t1\t0\t0\t0\nacct\t1\t62\tU\t1\t0\t0\t0\nacct\t1\t63\tU\t1\t0\t0\t0\nacct\t1\t64\tU\t1\t0\t0\t0\nacct\t1\t65\tU\t1\t0\t0\t0\nacct\t1\t66\tU\t1\t0\t0\t0\nacct\t1\t67\tU\t1\t0\t0\t0\nacct\t1\t68\tU\t1\t0\t0\t0\nacct\t1\t69\tU\t1\t0\t0\t0\nacct\t1\t70\tU\t1\t0\t0\t0\nacct\t1\t71\tU\t1\t0\t0\t0\nacct\t1\t72\tU\t1\t0\t0\t0\nacct\t1\t73\tU\t1\t0\t0\t0\nacct\t1\t74\tU\t1\t0\t0\t0\nacct\t1\t75\tU\t1\t0\t0\t0\nacct\t1\t76\tU\t1\t0\t0\t0\nacct\t1\t77\tU\t1\t0\t0\t0\nacct\t1\t78\tU\t1\t0\t0\t0\nacct\t1\t79\tU\t1\t0\t0\t0\nacct\t1\t80\tU\t1\t0\t0\t0\nacct\t1\t81\tU\t1\t0\t0\t0\nacct\t1\t82\tU\t1\t0\t0\t0\nacct\t1\t83\tU\t1\t0\t0\t0\nacct\t1\t84\tU\t1\t0\t0\t0\nacct\t1\t85\tU\t1\t0\t0\t0\nacct\t1\t86\tU\t1\t0\t0\t0\nacct\t1\t87\tU\t1\t0\t0\t0\nacct\t1\t88\tU\t1\t0\t0\t0\nacct\t1\t89\tU\t1\t0\t0\t0\nacct\t1\t90\tU\t1\t0\t0\t0\nacct\t1\t91\tU\t1\t0\t0\t0\nacct\t1\t92\tU\t1\t0\t0\t0\nacct\t1\t93\tU\t1\t0\t0\t0\nacct\t1\t94\tU\t1\t0\t0\t0\nacct\t1\t95\tU\t1\t0\t0\t0\nacct\t1\t96\tU\t1\t0\t0\t0\nacct\t1\t97\tU\t1\t0\t0\t0\nacct\t1\t98\tU\t1\t0\t0\t0\nacct\t1\t99\tU\t1\t0\t0\t0\nacct\t1\t100\tU\t1\t0\t0\t0\nacct\t1\t101\tU\t1\t0\t0\t0\nacct\t1\t102\tU\t1\t0\t0\t0\nacct\t1\t103\tU\t1\t0\t0\t0\nacct\t1\t104\tU\t1\t0\t0\t0\nacct\t1\t105\tU\t1\t0\t0\t0\nacct\t1\t106\tU\t1\t0\t0\t0\nacct\t1\t107\tU\t1\t0\t0\t0\nacct\t1\t108\tU\t1\t0\t0\t0\nacct\t1\t109\tU\t1\t0\t0\t0\nacct\t1\t110\tU\t1\t0\t0\t0\nacct\t1\t111\tU\t1\t0\t0\t0\nacct\t1\t112\tU\t1\t0\t0\t0\nacct\t1\t113\tU\t1\t0\t0\t0\nacct\t1\t114\tU\t1\t0\t0\t0\nacct\t1\t115\tU\t1\t0\t0\t0\nacct\t1\t116\tU\t1\t0\t0\t0\nacct\t1\t117\tU\t1\t0\t0\t0\nacct\t1\t118\tU\t1\t0\t0\t0\nacct\t1\t119\tU\t1\t0\t0\t0\nacct\t1\t120\tU\t1\t0\t0\t0\nacct\t1\t121\tU\t1\t0\t0\t0\nacct\t1\t122\tU\t1\t0\t0\t0\nacct\t1\t123\tU\t1\t0\t0\t0\nacct\t1\t124\tU\t1\t0\t0\t0\nacct\t1\t125\tU\t1\t0\t0\t0\nacct\t1\t126\tU\t1\t0\t0\t0\nacct\t1\t127\tU\t1\t0\t0\t0\nacct\t1\t128\tU\t1\t0\t0\t0\nacct\t1\t129\tU\t1\t0\t0\t0\nacct\t1\t130\tU\t1\t0\t0\t0\nacct\t1\t131\tU\t1\t0\t0\t0\nacct\t1\t132\tU\t1\t0\t0\t0\nacct\t1\t133\tU\t1\t0\t0\t0\nacct\t1\t134\tU\t1\t0\t0\t0\nacct\t1\t135\tU\t1\t0\t0\t0\nacct\t1\t136\tU\t1\t0\t0\t0\nacct\t1\t137\tU\t1\t0\t0\t0\nacct\t1\t138\tU\t1\t0\t0\t0\nacct\t1\t139\tU\t1\t0\t0\t0\nacct\t1\t140\tU\t1\t0\t0\t0\nacct\t1\t141\tU\t1\t0\t0\t0\nacct\t1\t142\tU\t1\t0\t0\t0\nacct\t1\t143\tU\t1\t0\t0\t0\nacct\t1\t144\tU\t1\t0\t0\t0\nacct\t1\t145\tU\t1\t0\t0\t0\nacct\t1\t146\tU\t1\t0\t0\t0\nacct\t1\t147\tU\t1\t0\t0\t0\nacct\t1\t148\tU\t1\t0\t0\t0\nacct\t1\t149\tU\t1\t0\t0\t0\nacct\t1\t150\tU\t1\t0\t0\t0\nacct\t1\t151\tU\t1\t0\t0\t0\nacct\t1\t152\tU\t1\t0\t0\t0\nacct\t1\t153\tU\t1\t0\t0\t0\nacct\t1\t154\tU\t1\t0\t0\t0\nacct\t1\t155\tU\t1\t0\t0\t0\nacct\t1\t156\tU\t1\t0\t0\t0\nacct\t1\t157\tU\t1\t0\t0\t0\nacct\t1\t158\tU\t1\t0\t0\t0\nacct\t1\t159\tU\t1\t0\t0\t0\nacct\t1\t160\tU\t1\t0\t0\t0\nacct\t1\t161\tU\t1\t0\t0\t0\nacct\t1\t162\tU\t1\t0\t0\t0\nacct\t1\t163\tU\t1\t0\t0\t0\nacct\t1\t164\tU\t1\t0\t0\t0\nacct\t1\t165\tU\t1\t0\t0\t0\nacct\t1\t166\tU\t1\t0\t0\t0\nacct\t1\t167\tU\t1\t0\t0\t0\nacct\t1\t168\tU\t1\t0\t0\t0\nacct\t1\t169\tU\t1\t0\t0\t0\nacct\t1\t170\tU\t1\t0\t0\t0\nacct\t1\t171\tU\t1\t0\t0\t0\nacct\t1\t172\tU\t1\t0\t0\t0\nacct\t1\t173\tU\t1\t0\t0\t0\nacct\t1\t174\tU\t1\t0\t0\t0\nacct\t1\t175\tU\t1\t0\t0\t0\nacct\t1\t176\tU\t1\t0\t0\t0\nacct\t1\t177\tU\t1\t0\t0\t0\nacct\t1\t178\tU\t1\t0\t0\t0\nacct\t1\t179\tU\t1\t0\t0\t0\nacct\t1\t180\tU\t1\t0\t0\t0\nacct\t1\t181\tU\t1\t0\t0\t0\nacct\t1\t182\tU\t1\t0\t0\t0\nacct\t1\t183\tU\t1\t0\t0\t0\nacct\t1\t184\tU\t1\t0\t0\t0\nacct\t1\t185\tU\t1\t0\t0\t0\nacct\t1\t186\tU\t1\t0\t0\t0\nacct\t1\t187\tU\t1\t0\t0\t0\nacct\t1\t188\tU\t1\t0\t0\t0\nacct\t1\t189\tU\t1\t0\t0\t0\nacct\t1\t190\tU\t1\t0\t0\t0\nacct\t1\t191\tU\t1\t0\t0\t0\nacct\t1\t192\tU\t1\t0\t0\t0\nacct\t1\t193\tU\t1\t0\t0\t0\nacct\t1\t194\tU\t1\t0\t0\t0\nacct\t1\t195\tU\t1\t0\t0\t0\nacct\t1\t196\tU\t1\t0\t0\t0\nacct\t1\t197\tU\t1\t0\t0\t0\nacct\t1\t198\tU\t1\t0\t0\t0\nacct\t1\t199\tU\t1\t0\t0\t0\nacct\t1\t200\tU\t1\t0\t0\t0\nacct\t1\t201\tU\t1\t0\t0\t0\nacct\t1\t202\tU\t1\t0\t0\t0\nacct\t1\t203\tU\t1\t0\t0\t0\nacct\t1\t204\tU\t1\t0\t0\t0\nacct\t1\t205\tU\t1\t0\t0\t0\nacct\t1\t206\tU\t1\t0\t0\t0\nacct\t1\t207\tU\t1\t0\t0\t0\nacct\t1\t208\tU\t1\t0\t0\t0\nacct\t1\t209\tU\t1\t0\t0\t0\nacct\t1\t210\tU\t1\t0\t0\t0\nacct\t1\t211\tU\t1\t0\t0\t0\nacct\t1\t212\tU\t1\t0\t0\t0\nacct\t1\t213\tU\t1\t0\t0\t0\nacct\t1\t214\tU\t1\t0\t0\t0\nacct\t1\t215\tU\t1\t0\t0\t0\nacct\t1\t216\tU\t1\t0\t0\t0\nacct\t1\t217\tU\t1\t0\t0\t0\nacct\t1\t218\tU\t1\t0\t0\t0\nacct\t1\t219\tU\t1\t0\t0\t0\nacct\t1\t220\tU\t1\t0\t0\t0\nacct\t1\t221\tU\t1\t0\t0\t0\nacct\t1\t222\tU\t1\t0\t0\t0\nacct\t1\t223\tU\t1\t0\t0\t0\nacct\t1\t224\tU\t1\t0\t0\t0\nacct\t1\t225\tU\t1\t0\t0\t0\nacct\t1\t226\tU\t1\t0\t0\t0\nacct\t1\t227\tU\t1\t0\t0\t0\nacct\t1\t228\tU\t1\t0\t0\t0\nacct\t1\t229\tU\t1\t0\t0\t0\nacct\t1\t230\tU\t1\t0\t0\t0\nacct\t1\t231\tU\t1\t0\t0\t0\nacct\t1\t232\tU\t1\t0\t0\t0\nacct\t1\t233\tU\t1\t0\t0\t0\nacct\t1\t234\tU\t1\t0\t0\t0\nacct\t1\t235\tU\t1\t0\t0\t0\nacct\t1\t236\tU\t1\t0\t0\t0\nacct\t1\t237\tU\t1\t0\t0\t0\nacct\t1\t238\tU\t1\t0\t0\t0\nacct\t1\t239\tU\t1\t0\t0\t0\nacct\t1\t240\tU\t1\t0\t0\t0\nacct\t1\t241\tU\t1\t0\t0\t0\nacct\t1\t242\tU\t1\t0\t0\t0\nacct\t1\t243\tU\t1\t0\t0\t0\nacct\t1\t244\tU\t1\t0\t0\t0\nacct\t1\t245\tU\t1\t0\t0\t0\nacct\t1\t246\tU\t1\t0\t0\t0\nacct\t1\t247\tU\t1\t0\t0\t0\nacct\t1\t248\tU\t1\t0\t0\t0\nacct\t1\t249\tU\t1\t0\t0\t0\nacct\t1\t250\tU\t1\t0\t0\t0\nacct\t1\t251\tU\t1\t0\t0\t0\nacct\t1\t252\tU\t1\t0\t0\t0\nacct\t1\t253\tU\t1\t0\t0\t0\nacct\t1\t254\tU\t1\t0\t0\t0\nacct\t1\t65536\tU\t1\t0\t0\t0\nend\n" gives "refused\t5\t259\n")
     -- a period line of a field too few
@@ -442,6 +448,14 @@ texts =
     ∷ ("period\t4\t2\nmember\t1\t30\nmember\t2\t5\nmember\t3\t12\nmember\t4\t30\nday\t11\t9\nacct\t1\t0\tH\t1000000000000\t1\t1\t1\t1000000000000\nacct\t1\t9194\tU\t0\t1\t1\t0\t0\nacct\t1\t10449\tU\t0\t0\t0\t0\t999999999999\nacct\t1\t27350\tA\t0\t0\t0\t-999999999999\t-999999999999\nacct\t1\t32255\tA\t0\t0\t0\t999999999999\t1\nacct\t1\t46913\tR\t1000000000000\t0\t0\t999999999999\t999999999999\nacct\t2\t0\tH\t0\t2\t0\t-1\t-1\nacct\t3\t0\tH\t1000000000000\t1\t0\t1000000000000\t1000000000000\nacct\t4\t0\tH\t-1\t0\t0\t-1\t-2\nend\n" gives "day\t11\t2499999999999\t2499999999998\ndaily\t1\t2499999999998\t1000000000000\t249999999999700\t274999999999670\t549999999999340\ndaily\t2\t0\t0\t0\t0\t0\ndaily\t3\t0\t0\t0\t0\t0\ndaily\t4\t1\t1\t100\t110\t220\ntotal\t2499999999999\t1000000000001\t249999999999800\t274999999999780\t549999999999560\nfund\t1\t2499999999998\t2750149999998\ncontribution\t1\t2749999999998\t2749999999998\t5499999999996\ncontribution\t2\t0\t50000000\t100000000\ncontribution\t3\t0\t50000000\t100000000\ncontribution\t4\t3\t50000000\t100000000\n")
     -- a day of small amounts and one of large, twelve clients of one member
     ∷ ("period\t2\t1\nmember\t1\t0\nmember\t2\t0\nday\t6\t14\nacct\t1\t0\tH\t100\t513969\t0\t1703\nacct\t1\t1\tR\t0\t0\t0\t9336\nacct\t1\t2\tR\t6\t3\t3\t-1567\nacct\t1\t4\tR\t31\t0\t0\t-188\nacct\t1\t5\tR\t-93534\t7756\t0\t-94222\nacct\t1\t6\tU\t60137\t515\t0\t59622\nacct\t1\t7\tA\t-8534\t59\t0\t-8593\nacct\t1\t8\tR\t22\t0\t0\t-957083\nacct\t1\t9\tA\t22\t0\t0\t-957083\nacct\t1\t10\tU\t-46\t76355\t0\t-76401\nacct\t1\t11\tR\t-23730\t51902\t51902\t-75632\nacct\t1\t12\tR\t0\t0\t0\t10\nacct\t1\t13\tA\t-7421\t1557\t0\t-8979\nacct\t2\t0\tH\t0\t982\t190\t9356\nday\t14\t13\nacct\t1\t0\tH\t953254430163\t0\t0\t1000000000000\nacct\t1\t1\tR\t418510812807\t749350838531\t749350838531\t196659524676\nacct\t1\t2\tR\t947064566301\t85405521710\t12238610127\t861659044590\nacct\t1\t3\tR\t373509261788\t974962331456\t0\t-601453069668\nacct\t1\t5\tU\t319774531444\t3\t0\t1000000000000\nacct\t2\t0\tH\t822961047001\t0\t0\t837148318357\nacct\t2\t1\tA\t708269794456\t0\t0\t1000000000000\nacct\t2\t3\tR\t-13375383878\t226672834982\t159037531670\t-240048218861\nacct\t2\t4\tR\t-13375383878\t226672834982\t159037531670\t-240048218861\nacct\t2\t5\tA\t663738635235\t914481008604\t518146117068\t-250742373370\nacct\t2\t6\tR\t-731694166136\t977905555724\t620800860695\t-742324093881\nacct\t2\t7\tR\t-116995082496\t842373208735\t842373208735\t-959368291232\nacct\t2\t8\tU\t538381967980\t0\t0\t-331902167388\nend\n" gives "day\t6\t1452144\t1452144\ndaily\t1\t1452144\t1000000000000\t145214400\t159735840\t319471680\ndaily\t2\t0\t0\t0\t0\t0\ntotal\t1452144\t1000000000000\t145214400\t159735840\t319471680\nday\t14\t2896959412954\t2662869514695\ndaily\t1\t234089898259\t80805377256\t21517417571837\t23669159329021\t47338318658041\ndaily\t2\t2662869514695\t919194622745\t244769533897663\t269246487287429\t538492974574859\ntotal\t2896959412954\t1000000000001\t266286951469500\t292915646616450\t585831293232900\nfund\t2\t2662869514695\t2929156466167\ncontribution\t1\t1582924029728\t1582924029728\t3165848059456\ncontribution\t2\t1346232436439\t1346232436439\t2692464872878\n")
+    -- five members that lose a few dollars: cents rounded up and down on four days
+    ∷ ("period\t5\t1\nmember\t1\t0\nmember\t2\t0\nmember\t3\t0\nmember\t4\t0\nmember\t5\t0\nday\t1\t5\nacct\t1\t0\tH\t0\t0\t0\t-4\nacct\t2\t0\tH\t0\t0\t0\t-6\nacct\t3\t0\tH\t0\t0\t0\t-4\nacct\t4\t0\tH\t0\t0\t0\t-1\nacct\t5\t0\tH\t0\t0\t0\t-1\nday\t2\t5\nacct\t1\t0\tH\t0\t0\t0\t-2\nacct\t2\t0\tH\t0\t0\t0\t-12\nacct\t3\t0\tH\t0\t0\t0\t-7\nacct\t4\t0\tH\t0\t0\t0\t-14\nacct\t5\t0\tH\t0\t0\t0\t-5\nday\t3\t5\nacct\t1\t0\tH\t0\t0\t0\t-12\nacct\t2\t0\tH\t0\t0\t0\t-27\nacct\t3\t0\tH\t0\t0\t0\t-96\nacct\t4\t0\tH\t0\t0\t0\t-57\nacct\t5\t0\tH\t0\t0\t0\t-8\nday\t4\t5\nacct\t1\t0\tH\t0\t0\t0\t-3\nacct\t2\t0\tH\t0\t0\t0\t-2\nacct\t3\t0\tH\t0\t0\t0\t-1\nacct\t4\t0\tH\t0\t0\t0\t-1\nacct\t5\t0\tH\t0\t0\t0\t-1\nend\n" gives "day\t1\t16\t6\ndaily\t1\t4\t250000000000\t150\t165\t330\ndaily\t2\t6\t375000000000\t225\t248\t495\ndaily\t3\t4\t250000000000\t150\t165\t330\ndaily\t4\t1\t62500000000\t38\t41\t83\ndaily\t5\t1\t62500000000\t38\t41\t83\ntotal\t16\t1000000000000\t601\t660\t1321\nday\t2\t40\t14\ndaily\t1\t2\t50000000000\t70\t77\t154\ndaily\t2\t12\t300000000000\t420\t462\t924\ndaily\t3\t7\t175000000000\t245\t270\t539\ndaily\t4\t14\t350000000000\t490\t539\t1078\ndaily\t5\t5\t125000000000\t175\t193\t385\ntotal\t40\t1000000000000\t1400\t1541\t3080\nday\t3\t200\t96\ndaily\t1\t12\t60000000000\t576\t634\t1267\ndaily\t2\t27\t135000000000\t1296\t1426\t2851\ndaily\t3\t96\t480000000000\t4608\t5069\t10138\ndaily\t4\t57\t285000000000\t2736\t3010\t6019\ndaily\t5\t8\t40000000000\t384\t422\t845\ntotal\t200\t1000000000000\t9600\t10561\t21120\nday\t4\t8\t3\ndaily\t1\t3\t375000000000\t113\t124\t248\ndaily\t2\t2\t250000000000\t75\t83\t165\ndaily\t3\t1\t125000000000\t38\t41\t83\ndaily\t4\t1\t125000000000\t38\t41\t83\ndaily\t5\t1\t125000000000\t38\t41\t83\ntotal\t8\t1000000000000\t302\t330\t662\nfund\t4\t96\t250000000\ncontribution\t1\t20\t50000000\t100000000\ncontribution\t2\t28\t50000000\t100000000\ncontribution\t3\t28\t50000000\t100000000\ncontribution\t4\t22\t50000000\t100000000\ncontribution\t5\t10\t50000000\t100000000\n")
+    -- members whose margins cover their losses, and a group, on two days
+    ∷ ("period\t6\t1\nmember\t1\t0\nmember\t2\t0\nmember\t3\t1\nmember\t4\t0\nmember\t5\t1\nmember\t6\t0\nday\t1\t6\nacct\t1\t0\tH\t0\t0\t0\t-100\nacct\t2\t0\tH\t0\t110\t0\t0\nacct\t3\t0\tH\t0\t200\t0\t-100\nacct\t4\t0\tH\t0\t0\t0\t0\nacct\t5\t0\tH\t0\t0\t0\t0\nacct\t6\t0\tH\t0\t110\t0\t-150\nday\t2\t6\nacct\t1\t0\tH\t0\t0\t0\t-100\nacct\t2\t0\tH\t0\t200\t0\t-150\nacct\t3\t0\tH\t0\t0\t0\t-150\nacct\t4\t0\tH\t0\t110\t0\t-150\nacct\t5\t0\tH\t0\t110\t0\t0\nacct\t6\t0\tH\t0\t200\t0\t-150\nend\n" gives "day\t1\t140\t100\ndaily\t1\t100\t714285714286\t7143\t7857\t15714\ndaily\t2\t0\t0\t0\t0\t0\ndaily\t3\t0\t0\t0\t0\t0\ndaily\t4\t0\t0\t0\t0\t0\ndaily\t5\t0\t0\t0\t0\t0\ndaily\t6\t40\t285714285715\t2857\t3143\t6286\ntotal\t140\t1000000000001\t10000\t11000\t22000\nday\t2\t290\t150\ndaily\t1\t100\t344827586207\t5172\t5690\t11379\ndaily\t2\t0\t0\t0\t0\t0\ndaily\t3\t150\t517241379311\t7759\t8534\t17069\ndaily\t4\t40\t137931034483\t2069\t2276\t4552\ndaily\t5\t0\t0\t0\t0\t0\ndaily\t6\t0\t0\t0\t0\t0\ntotal\t290\t1000000000001\t15000\t16500\t33000\nfund\t2\t150\t300000000\ncontribution\t1\t88\t50000000\t100000000\ncontribution\t2\t0\t50000000\t100000000\ncontribution\t3\t43\t50000000\t100000000\ncontribution\t4\t12\t50000000\t100000000\ncontribution\t5\t0\t50000000\t100000000\ncontribution\t6\t24\t50000000\t100000000\n")
+    -- two days of one T and unlike cents
+    ∷ ("period\t2\t1\nmember\t1\t0\nmember\t2\t0\nday\t1\t2\nacct\t1\t0\tH\t0\t0\t0\t-219\nacct\t2\t0\tH\t0\t0\t0\t-581\nday\t2\t2\nacct\t1\t0\tH\t0\t0\t0\t-576\nacct\t2\t0\tH\t0\t0\t0\t-224\nend\n" gives "day\t1\t800\t581\ndaily\t1\t219\t273750000000\t15905\t17495\t34991\ndaily\t2\t581\t726250000000\t42195\t46415\t92829\ntotal\t800\t1000000000000\t58100\t63910\t127820\nday\t2\t800\t576\ndaily\t1\t576\t720000000000\t41472\t45619\t91238\ndaily\t2\t224\t280000000000\t16128\t17741\t35482\ntotal\t800\t1000000000000\t57600\t63360\t126720\nfund\t2\t581\t100000000\ncontribution\t1\t318\t50000000\t100000000\ncontribution\t2\t322\t50000000\t100000000\n")
+    -- a day whose cents are all 0, between two that are not
+    ∷ ("period\t1\t2\nmember\t1\t0\nday\t1\t2\nacct\t1\t0\tH\t0\t55\t0\t-50\t0\nacct\t1\t1\tU\t0\t5\t0\t0\t-50\nday\t2\t2\nacct\t1\t0\tH\t0\t55\t0\t-50\t0\nacct\t1\t1\tU\t0\t5\t0\t0\t-10\nday\t3\t2\nacct\t1\t0\tH\t0\t55\t0\t-50\t0\nacct\t1\t1\tU\t0\t5\t0\t0\t-50\nend\n" gives "day\t1\t63\t13\ndaily\t1\t63\t1000000000000\t1300\t1430\t2860\ntotal\t63\t1000000000000\t1300\t1430\t2860\nday\t2\t3\t0\ndaily\t1\t3\t1000000000000\t0\t0\t0\ntotal\t3\t1000000000000\t0\t0\t0\nday\t3\t63\t13\ndaily\t1\t63\t1000000000000\t1300\t1430\t2860\ntotal\t63\t1000000000000\t1300\t1430\t2860\nfund\t3\t13\t50000000\ncontribution\t1\t15\t50000000\t100000000\n")
     ∷ []
 
 -- Up to here it is written.
@@ -468,11 +482,12 @@ pub bytes-at-first : (g : Register) → readDay g 4 (some (3 ∷ 2 ∷ [])) ≡ 
 unfolding computed reads
 bytes-at-first g = refl
 
--- What no report shows: the number of a letter, "else 9", where A and U count alike and row 5 refuses every other; a number of 20 digits.
+-- What no report shows: the number of a letter, "else 9", where A and U count alike and row 5 refuses every other; numbers of 20 digits.
 pub letters : map (λ (s : String). kindOf (bytes s)) ("H" ∷ "R" ∷ "A" ∷ "U" ∷ "h" ∷ "" ∷ "HH" ∷ "9" ∷ []) ≡ 0 ∷ 1 ∷ 2 ∷ 3 ∷ 9 ∷ 9 ∷ 9 ∷ 9 ∷ []
 unfolding computed reads
 letters = refl
 
-pub longest : decimal 99999999999999999999 ≡ bytes "99999999999999999999"
+pub longest : map decimal (99999999999999999999 ∷ 10020030004000050009 ∷ 10000000000000000000 ∷ [])
+    ≡ bytes "99999999999999999999" ∷ bytes "10020030004000050009" ∷ bytes "10000000000000000000" ∷ []
 unfolding computed reads
 longest = refl

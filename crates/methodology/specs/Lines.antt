@@ -1,12 +1,12 @@
 -- The line at the front of a text: what `reportFrom` reads next, where the lines before it are taken away.
 use mathlib.Core.Bool.{Bool, not, _&&_, cond}
-use mathlib.Core.List.{List, []}
+use mathlib.Core.List.{List}
 use mathlib.Core.Option.{Option, none}
 use Prim.Native.Nat.{ℕ, suc}
 use lib.Dec.{ltb, eqb}
-use lib.ListN.{length, getD, take, drop}
+use lib.ListN.{length, take, drop}
 use Rattle.numbers.specs.Lists.{firstWhere}
-use Rattle.methodology.specs.Text.{LF, bytes, same, split, fields, valueFrom, badBytes}
+use Rattle.methodology.specs.Text.{LF, bytes, same, badBytes}
 
 -- the index of the first b, the text's length where there is none
 abbrev pub indexOf : (b : ℕ) → (text : List ℕ) → ℕ
@@ -29,7 +29,3 @@ isEnd s = has LF s && same (before LF s) (bytes "end")
 -- what `reading` makes of the line: nothing where no LF ends it or its bytes are bad
 unfoldable pub lineRead : {A : Type 0} → (reading : List ℕ → Option A) → (text : List ℕ) → Option A
 lineRead reading s = cond (has LF s && not (badBytes (before LF s))) (reading (before LF s)) none
-
--- n, as the period line has it: the number after the first word of a text
-abbrev pub membersIn : (text : List ℕ) → ℕ
-membersIn text = valueFrom 0 (getD (fields (getD (split LF text) 0 [])) 1 [])

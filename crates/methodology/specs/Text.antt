@@ -1,5 +1,5 @@
 -- Document 01, "The month's text": for any bytes, the bytes of the report. What is read makes calls, and the register answers them. By
--- document 02's Change 1 a total stands under each day.
+-- document 02's Change 1 a total stands under each accepted day.
 use mathlib.Core.Bool.{Bool, true, false, not, _&&_, _||_, cond}
 use mathlib.Core.List.{List, [], _∷_, _++_, flatMap}
 use mathlib.Core.Option.{Option, none, some}
@@ -168,15 +168,15 @@ columnSum width n out c = Σ (members n) (λ m. getD (stretch width m out) c 0)
 unfoldable pub totals : (n : ℕ) → (out : List ℕ) → List ℕ
 totals n out = columnSum 5 n out 0 ∷ columnSum 5 n out 1 ∷ columnSum 5 n out 2 ∷ columnSum 5 n out 3 ∷ columnSum 5 n out 4 ∷ []
 
--- an accepted day: "day number, T, Max EUL; member and its five numbers"; by Change 1, "After a day's daily lines the report prints `total`,
--- then the sums"
-unfoldable pub dayLines : (number n : ℕ) → (returned written : List ℕ) → List ℕ
-dayLines number n figures out =
-    printed (bytes "day") (number ∷ figures) ++ rows (bytes "daily") 5 n out ++ printed (bytes "total") (totals n out)
+-- An accepted day, which returned `answer` and wrote `out`: "day number, T, Max EUL; member and its five numbers". By Change 1, "After a
+-- day's daily lines the report prints `total`, then the sums".
+unfoldable pub dayLines : (number n : ℕ) → (answer out : List ℕ) → List ℕ
+dayLines number n answer out =
+    printed (bytes "day") (number ∷ answer) ++ rows (bytes "daily") 5 n out ++ printed (bytes "total") (totals n out)
 
--- an accepted closing: "D, M, total funded; member and its three numbers"
-unfoldable pub fundLines : (n : ℕ) → (returned written : List ℕ) → List ℕ
-fundLines n figures out = printed (bytes "fund") figures ++ rows (bytes "contribution") 3 n out
+-- an accepted closing, likewise: "D, M, total funded; member and its three numbers"
+unfoldable pub fundLines : (n : ℕ) → (answer out : List ℕ) → List ℕ
+fundLines n answer out = printed (bytes "fund") answer ++ rows (bytes "contribution") 3 n out
 
 -- ---- reading
 

@@ -5,8 +5,8 @@ use borrow.Author.Needs.{needs}
 use Rattle.answers.proofs.put_day.Statement.{statement}
 use Rattle.answers.proofs.put_day.Tie as tie
 
-totals-requires : tie.Need-totals-requires
-totals-requires c κs = search needs
+day-totals-requires : tie.Need-day-totals-requires
+day-totals-requires c κs = search needs
 
 slice-aggregate-put-line : tie.Need-slice-aggregate-put-line
 slice-aggregate-put-line c = search needs
@@ -42,13 +42,13 @@ returns c =
     let daily = total .before .before .before .before .before .before in
     let headed = daily .before .before .before .before .before in
     let summed = headed .before .before .before .before in
-    put-then (put-then (headed .put-line .ensures) (daily .put-rows .ensures)) (rw (summed .totals .ensures) at (total .put-line2 .ensures))
+    put-then (put-then (headed .put-line .ensures) (daily .put-rows .ensures)) (rw (summed .day-totals .ensures) at (total .put-line2 .ensures))
 
 pub put-day-spec : {M : Type 1} → statement M
 put-day-spec =
     tie.close
     (tie.spec
-    totals-requires
+    day-totals-requires
     slice-aggregate-put-line
     slice-aggregate-put-line-2
     put-line-requires

@@ -1,8 +1,8 @@
--- `totals` meets its contract: the five columns, one after another.
+-- `day_totals` meets its contract: the five columns, one after another.
 use native.Mathlib.Omega.{arith}
 use Rattle.methodology.specs.Text.{totals}
-use Rattle.answers.proofs.totals.totals.Statement.{statement}
-use Rattle.answers.proofs.totals.totals.Tie as tie
+use Rattle.answers.proofs.totals.day_totals.Statement.{statement}
+use Rattle.answers.proofs.totals.day_totals.Tie as tie
 
 column-sum-requires : tie.Need-column-sum-requires
 unfolding totals
@@ -33,8 +33,8 @@ returns c =
     let first = second .before in
     rw (c .column-sum5 .ensures, fourth .column-sum4 .ensures, third .column-sum3 .ensures, second .column-sum2 .ensures, first .column-sum .ensures)
 
-pub totals-spec : {M : Type 1} → statement M
-totals-spec =
+pub day-totals-spec : {M : Type 1} → statement M
+day-totals-spec =
     tie.close
     (tie.spec
     column-sum-requires
