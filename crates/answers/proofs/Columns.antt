@@ -5,7 +5,7 @@ use Prim.Native.Nat.{ℕ, suc, _+_, _-_, _*_, _^_, _≤_, _<_}
 use native.Mathlib.Nat.{sub-zero}
 use native.Mathlib.Numerals.{add-one}
 use native.Mathlib.Omega.{arith}
-use lib.ListN.{getD, drop}
+use lib.ListN.{getD}
 use Rattle.numbers.specs.Lists.{range, Every}
 use Rattle.numbers.specs.Sums.{Σ}
 use Rattle.numbers.proofs.Lists.{range-length, part-at, every-at, every-take, every-drop}

@@ -61,7 +61,9 @@ day-so {rest = rest} {d = d} shows adds more =
           record {
             days = d ∷ m .days;
             rest = m .rest;
-            whole = shows .are rest ∙ ap (λ (l : List Line). linesOfDay d ++ l) (m .whole) ∙ sym (append-assoc (linesOfDay d) (flatMap linesOfDay (m .days)) (m .rest));
+            whole =
+                shows .are rest ∙ ap (λ (l : List Line). linesOfDay d ++ l) (m .whole)
+                ∙ sym (append-assoc (linesOfDay d) (flatMap linesOfDay (m .days)) (m .rest));
             add-up = (adds, m .add-up);
             no-day = m .no-day;
           };
