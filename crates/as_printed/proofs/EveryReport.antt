@@ -19,7 +19,7 @@ use Rattle.fund.proofs.Dailies.{dailies-long}
 use Rattle.demand3.specs.Demand3.{Fits64}
 use Rattle.demand3.proofs.RegisterFits.{Kept, kept-first, CallFits, call-fits, writes-few}
 use Rattle.answers.proofs.Columns.{totals-fit}
-use Rattle.as_printed.specs.AsPrinted.{Line, linesOf, InDecimal, DayRead, linesOfDay, AddsUp, Other, DaysAddUp, registerAfter, membersIn, ReadAsSummed, AsPrinted}
+use Rattle.as_printed.specs.AsPrinted.{Line, linesOf, InDecimal, DayRead, linesOfDay, AddsUp, Other, DaysAddUp, registerFed, membersIn, ReadAsSummed, AsPrinted}
 use Rattle.as_printed.proofs.DaySums.{sums-of-five, first-sum-is-T}
 use Rattle.as_printed.proofs.ReadBack.{digits-alone, reads-back, reads-back-as-text}
 use Rattle.as_printed.proofs.PrintedLines.{Shows}
@@ -158,7 +158,7 @@ every-report text = subst (λ (n : ℕ). ReadsBack n (reportOf text)) (told (fie
 
 -- ---- the claim
 
-kept-after : {g : Register} → Kept g → (calls : List Call) → Kept (registerAfter g calls)
+kept-after : {g : Register} → Kept g → (calls : List Call) → Kept (registerFed g calls)
 kept-after k [] = k
 kept-after k (c ∷ cs) = kept-after (call-fits k c .kept) cs
 

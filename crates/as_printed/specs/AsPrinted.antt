@@ -85,10 +85,10 @@ pub record DaysAddUp (n : ℕ) (report : List ℕ) : Type 0 where
 
 -- ---- what was summed is what is read
 
--- the register after calls, refused ones among them
-abbrev pub registerAfter : Register → List Call → Register
-registerAfter g [] = g
-registerAfter g (c ∷ cs) = registerAfter (step g c) cs
+-- the register that is fed these calls, refused ones among them
+abbrev pub registerFed : Register → List Call → Register
+registerFed g [] = g
+registerFed g (c ∷ cs) = registerFed (step g c) cs
 
 -- An accepted day, where g is the register as the call leaves it: what it returned and wrote and the sums of that are below 2^64, and its
 -- lines in the report are read as these very numbers, each member's after its own.
@@ -132,7 +132,7 @@ pub record AsPrinted : Type 0 where
   pub reads-back-as-text : (x : ℕ) → x < 10 ^ 13 → numberOf (decimal x) ≡ some x
   -- every accepted day, after any calls
   pub read-as-summed : (calls : List Call) (d : DayInput)
-      → let g = registerAfter start calls in
+      → let g = registerFed start calls in
       let call = Call.day d (5 * g .held .n) in
       refusal g call ≡ Clear → ReadAsSummed (step g call) d call
   -- every line of every report

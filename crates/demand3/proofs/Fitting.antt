@@ -112,11 +112,11 @@ module _ {p : Period} {room : ℕ} (c : Closable p room) (full : length (p .accr
 
 -- ---- the period
 
-zeros-fit : Every Fits64 (replicate 32 0)
-zeros-fit = indexed Fits64 (replicate 32 0) (λ i. omega (arith, replicate-at {A = ℕ} 32 i 0))
+pub zeros-fit : (count : ℕ) → Every Fits64 (replicate count 0)
+zeros-fit count = indexed Fits64 (replicate count 0) (λ i. omega (arith, replicate-at {A = ℕ} count i 0))
 
 none-accrued : NarrowAccrued (freshPeriod .accrued)
-none-accrued = record { last = omega arith; days = omega arith; highest = omega arith; sums = zeros-fit; sums-long = refl }
+none-accrued = record { last = omega arith; days = omega arith; highest = omega arith; sums = zeros-fit 32; sums-long = refl }
 
 narrow-places : (o : Opening) → o .n ≤ 32 → o .k ≤ 16 → ((i : ℕ) → getD (o .groups) i 0 ≤ 32) → NarrowOpening (inPlaces o)
 narrow-places o n k group =

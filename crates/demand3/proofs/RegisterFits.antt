@@ -1,10 +1,8 @@
 -- What the register says of an accepted call fits 64 bits: such a call can be made, and what the program returns and writes does.
 use mathlib.Core.Path.{_≡_, sym, ap, subst, _∙_}
 use Prim.Native.Nat.{ℕ}
-use native.Mathlib.Omega.{arith}
 use lib.ListN.{replicate, length-replicate}
 use Rattle.numbers.specs.Lists.{Every}
-use Rattle.numbers.proofs.Lists.{by-index, replicate-at, mem-every}
 use Rattle.methodology.specs.declared.Refusal.the-variants.{Clear}
 use Rattle.methodology.specs.declared.Opening.{Opening}
 use Rattle.methodology.specs.Account.{DayInput, accounts}
@@ -19,7 +17,7 @@ use Rattle.period.proofs.Simulation.{starts, held-by, day-row}
 use Rattle.demand3.specs.Made.{Asked, lent, callOf}
 use Rattle.demand3.specs.Demand3.{Fits64, Narrow}
 use Rattle.demand3.proofs.EveryList.{agrees}
-use Rattle.demand3.proofs.Fitting.{narrow-fresh, fits, makes}
+use Rattle.demand3.proofs.Fitting.{zeros-fit, narrow-fresh, fits, makes}
 
 -- a register that calls lead to, with the period that they leave
 pub record Kept (g : Register) : Type 0 where
@@ -48,10 +46,7 @@ as-asked k a free =
       written-fits = λ clear. rw (agreed .buffer, clear) at (f .buffer free);
     }
 
--- zeros for a call to write over
-zeros-fit : (room : ℕ) → Every Fits64 (replicate room 0)
-zeros-fit room = mem-every Fits64 (replicate room 0) (by-index Fits64 (replicate room 0) 0 (λ i h. omega (arith, replicate-at {A = ℕ} room i 0)))
-
+-- a day and a closing are lent zeros to write over
 pub call-fits : {g : Register} → Kept g → (c : Call) → CallFits g c
 call-fits k (Call.opening o) = as-asked k (Asked.opening o) tt
 call-fits {g} k (Call.day d room) =
@@ -59,7 +54,7 @@ call-fits {g} k (Call.day d room) =
 call-fits {g} k (Call.closing room) =
     subst (λ (r : ℕ). CallFits g (Call.closing r)) (length-replicate room 0) (as-asked k (Asked.closing (replicate room 0)) (zeros-fit room))
 
--- the numbers that a day writes are so few that sums of them fit too
+-- a day's numbers are so small that sums of them fit too
 pub writes-few : {g : Register} → Kept g → (d : DayInput) (room : ℕ) → refusal g (Call.day d room) ≡ Clear
     → Every Few (written (step g (Call.day d room)) (Call.day d room))
 unfolding written accept
