@@ -1,7 +1,7 @@
 -- The sums under a day are those of e, share, value, reserve and estimate over its members: a member's numbers stand in its stretch of what
 -- the day wrote. So the first is T.
 use mathlib.Core.Path.{_≡_, ap, _∙_}
-use mathlib.Core.List.{List, [], _∷_}
+use mathlib.Core.List.{List}
 use Prim.Native.Nat.{ℕ, _+_, _-_, _*_, _<_}
 use native.Mathlib.Omega.{arith}
 use lib.ListN.{getD}
@@ -12,9 +12,10 @@ use Rattle.numbers.proofs.Sums.{Σ-eq}
 use Rattle.methodology.specs.declared.Opening.{Opening}
 use Rattle.methodology.specs.Account.{Account, members}
 use Rattle.methodology.specs.Member.{loss}
-use Rattle.methodology.specs.Day.{total, maxEul, share, value, reserve, estimate, five, dailies}
+use Rattle.methodology.specs.Day.{total, maxEul, five, dailies}
 use Rattle.methodology.specs.Text.{stretch, columnSum, totals}
 use Rattle.fund.proofs.Dailies.{five-wide}
+use Rattle.as_printed.specs.AsPrinted.{sumsOfFive}
 
 module _ (o : Opening) (accts : List Account) where
   abbrev e : (m : ℕ) → ℕ
@@ -39,13 +40,7 @@ module _ (o : Opening) (accts : List Account) where
   unfolding columnSum
   column-is c inside = Σ-eq (members (o .n)) _ _ (λ m i. number-at m c i inside)
 
-  pub sums-of-five : totals (o .n) (dailies o accts)
-      ≡ Σ (members (o .n)) e
-      ∷ Σ (members (o .n)) (λ m. share (e m) T)
-      ∷ Σ (members (o .n)) (λ m. value (e m) Max T)
-      ∷ Σ (members (o .n)) (λ m. reserve (e m) Max T)
-      ∷ Σ (members (o .n)) (λ m. estimate (e m) Max T)
-      ∷ []
+  pub sums-of-five : totals (o .n) (dailies o accts) ≡ sumsOfFive o accts
   unfolding totals five
   sums-of-five = rw (column-is 0 (omega arith), column-is 1 (omega arith), column-is 2 (omega arith), column-is 3 (omega arith), column-is 4 (omega arith))
 

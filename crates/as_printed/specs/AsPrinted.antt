@@ -110,19 +110,22 @@ pub record ReadAsSummed (g : Register) (d : DayInput) (call : Call) : Type 0 whe
 
 -- ---- Change 1
 
+-- "the sums of e, share, value, reserve and estimate over that day's members", from its accounts
+abbrev pub sumsOfFive : Opening → List Account → List ℕ
+sumsOfFive o accts =
+    let e = loss (o .k) accts in
+    let Max = maxEul o accts in
+    let T = total o accts in
+    Σ (members (o .n)) e
+    ∷ Σ (members (o .n)) (λ m. share (e m) T)
+    ∷ Σ (members (o .n)) (λ m. value (e m) Max T)
+    ∷ Σ (members (o .n)) (λ m. reserve (e m) Max T)
+    ∷ Σ (members (o .n)) (λ m. estimate (e m) Max T)
+    ∷ []
+
 pub record AsPrinted : Type 0 where
-  -- "the sums of e, share, value, reserve and estimate over that day's members", of what a day writes
-  pub sums-of-five : (o : Opening) (accts : List Account)
-      → let e = loss (o .k) accts in
-      let Max = maxEul o accts in
-      let T = total o accts in
-      totals (o .n) (dailies o accts)
-      ≡ Σ (members (o .n)) e
-      ∷ Σ (members (o .n)) (λ m. share (e m) T)
-      ∷ Σ (members (o .n)) (λ m. value (e m) Max T)
-      ∷ Σ (members (o .n)) (λ m. reserve (e m) Max T)
-      ∷ Σ (members (o .n)) (λ m. estimate (e m) Max T)
-      ∷ []
+  -- these are the sums of the columns that a day writes
+  pub sums-of-five : (o : Opening) (accts : List Account) → totals (o .n) (dailies o accts) ≡ sumsOfFive o accts
   -- "and the first equals T"
   pub first-sum-is-T : (o : Opening) (accts : List Account) → getD (totals (o .n) (dailies o accts)) 0 0 ≡ total o accts
   -- A number below 10^20 is printed in digits alone, which have its value; where there are at most 13 they are that number to the reader of
