@@ -1,5 +1,6 @@
 -- What a call's answer prints, as it is read back: an accepted day's lines add up, and a closing's lines and a refusal's are no day's.
 use mathlib.Core.Path.{_≡_, refl, sym, ap, subst, _∙_}
+use mathlib.Core.Bool.{true≢false}
 use mathlib.Core.List.{List, [], _∷_, _++_, map, map-map, map-id}
 use Prim.Native.Nat.{ℕ, suc, _-_, _*_, _≤_}
 use native.Mathlib.Omega.{arith}
@@ -11,7 +12,7 @@ use Rattle.numbers.proofs.Sums.{Σ-map}
 use Rattle.methodology.specs.Account.{members}
 use Rattle.methodology.specs.Text.{bytes, same, stretch, refusedLine, rows, columnSum, totals, dayLines, fundLines}
 use Rattle.demand3.specs.Demand3.{Fits64}
-use Rattle.as_printed.specs.AsPrinted.{Line, worded, DayRead, linesOfDay, AddsUp, Other}
+use Rattle.as_printed.specs.AsPrinted.{Line, worded, DayRead, linesOfDay, AddsUp, Other, Counts}
 use Rattle.as_printed.proofs.PrintedLines.{Word, Shows, shows-line, shows-then, shows-each}
 
 -- member m's line has its number before its stretch
@@ -69,6 +70,11 @@ pub fund-other : (n : ℕ) (figures out : List ℕ) → Every Other (fundRead n 
 unfolding bytes same
 fund-other n figures out = (refl, every-map Other _ (members n) (λ m i. refl))
 
+-- its D stands first
+pub fund-counts : {D : ℕ} (n : ℕ) (figures out : List ℕ) → getD figures 0 0 ≡ D → Every (Counts D) (fundRead n figures out)
+unfolding bytes same
+fund-counts {D} n figures out is = ((λ e. is), every-map (Counts D) _ (members n) (λ m i e. absurd (true≢false (sym e))))
+
 pub refused-shows : (number line : ℕ) → Fits64 number → Fits64 line → Shows (refusedLine number line) (worded (bytes "refused") (number ∷ line ∷ []) ∷ [])
 unfolding bytes any
 refused-shows number line h k = shows-line (bytes "refused") (number ∷ line ∷ []) (refl, refl) (h, (k, tt))
@@ -76,3 +82,7 @@ refused-shows number line h k = shows-line (bytes "refused") (number ∷ line �
 pub refused-other : (number line : ℕ) → Every Other (worded (bytes "refused") (number ∷ line ∷ []) ∷ [])
 unfolding bytes same
 refused-other number line = (refl, tt)
+
+pub refused-counts : {D : ℕ} (number line : ℕ) → Every (Counts D) (worded (bytes "refused") (number ∷ line ∷ []) ∷ [])
+unfolding bytes same
+refused-counts number line = ((λ e. absurd (true≢false (sym e))), tt)

@@ -1,10 +1,12 @@
 -- Every report read back, by what it is made of: the lines of each accepted day add up, and what ends the report has no day's lines. With
 -- it the claim is whole: `as-printed`.
 use mathlib.Core.Path.{_≡_, refl, sym, ap, subst, _∙_}
+use mathlib.Core.Bool.{true≢false}
 use mathlib.Core.List.{List, [], _∷_, _++_, map, flatMap, append-nil, append-assoc}
-use Prim.Native.Nat.{ℕ, _*_, _≤_, _<_, _^_}
+use Prim.Native.Nat.{ℕ, _+_, _*_, _≤_, _<_, _^_}
+use native.Mathlib.Nat.{add-zero}
 use native.Mathlib.Omega.{arith}
-use lib.ListN.{getD, drop}
+use lib.ListN.{length, getD, drop}
 use Rattle.numbers.specs.Lists.{Every}
 use Rattle.numbers.proofs.Lists.{every-append}
 use Rattle.methodology.specs.declared.Refusal.the-variants.{Clear}
@@ -19,16 +21,16 @@ use Rattle.fund.proofs.Dailies.{dailies-long}
 use Rattle.demand3.specs.Demand3.{Fits64}
 use Rattle.demand3.proofs.RegisterFits.{Kept, kept-first, CallFits, call-fits, writes-few}
 use Rattle.answers.proofs.Columns.{totals-fit}
-use Rattle.as_printed.specs.AsPrinted.{Line, linesOf, InDecimal, DayRead, linesOfDay, AddsUp, Other, DaysAddUp, registerFed, membersIn, ReadAsSummed, AsPrinted}
-use Rattle.as_printed.proofs.DaySums.{sums-of-five, first-sum-is-T}
-use Rattle.as_printed.proofs.ReadBack.{digits-alone, reads-back, reads-back-as-text}
+use Rattle.as_printed.specs.AsPrinted.{Line, linesOf, InDecimal, DayRead, linesOfDay, AddsUp, Other, Counts, DaysAddUp, registerFed, membersIn, ReadAsSummed, AsPrinted}
+use Rattle.as_printed.proofs.DaySums.{record-is, sums-of-five, first-sum-is-T}
+use Rattle.as_printed.proofs.ReadBack.{digits-alone, no-leading-zero, reads-back, reads-back-as-text}
 use Rattle.as_printed.proofs.PrintedLines.{Shows}
-use Rattle.as_printed.proofs.DayShown.{asRead, day-shows, day-adds-up, fund-shows, fund-other, refused-shows, refused-other}
+use Rattle.as_printed.proofs.DayShown.{asRead, day-shows, day-adds-up, fund-shows, fund-other, fund-counts, refused-shows, refused-other, refused-counts}
 
 -- ---- what is read back
 
-record ReadsBack (n : ℕ) (report : List ℕ) : Type 0 where
-  days-add-up : DaysAddUp n report
+record ReadsBack (n before : ℕ) (report : List ℕ) : Type 0 where
+  days-add-up : DaysAddUp n before report
   all-decimal : Every InDecimal (split LF report)
 
 -- nothing after the last LF
@@ -37,9 +39,9 @@ unfolding split
 last-part = (record { fields-are = refl; fit = tt }, tt)
 
 -- lines of no day end a report
-ends-so : {n : ℕ} {s : List ℕ} {lines : List Line} → Shows s lines → Every Other lines → ReadsBack n s
+ends-so : {n before : ℕ} {s : List ℕ} {lines : List Line} → Shows s lines → Every Other lines → Every (Counts before) lines → ReadsBack n before s
 unfolding flatMap split same bytes
-ends-so {s = s} {lines = lines} shows other =
+ends-so {before = before} {s = s} {lines = lines} shows other counts =
     record {
       days-add-up =
           record {
@@ -48,14 +50,16 @@ ends-so {s = s} {lines = lines} shows other =
             whole = subst (λ (l : List ℕ). linesOf l ≡ lines ++ linesOf []) (append-nil s) (shows .are []);
             add-up = tt;
             no-day = every-append Other lines (linesOf []) other (refl, tt);
+            all-there = rw add-zero (every-append (Counts before) lines (linesOf []) counts ((λ e. absurd (true≢false (sym e))), tt));
           };
       all-decimal = subst (λ (l : List ℕ). Every InDecimal (split LF l)) (append-nil s) (shows .decimal-too [] last-part);
     }
 
-day-so : {n : ℕ} {s rest : List ℕ} {d : DayRead} → Shows s (linesOfDay d) → AddsUp n d → ReadsBack n rest → ReadsBack n (s ++ rest)
+day-so : {n before : ℕ} {s rest : List ℕ} {d : DayRead} → Shows s (linesOfDay d) → AddsUp n d → ReadsBack n (before + 1) rest → ReadsBack n before (s ++ rest)
 unfolding flatMap
-day-so {rest = rest} {d = d} shows adds more =
+day-so {before = before} {rest = rest} {d = d} shows adds more =
     let m = more .days-add-up in
+    let one-more : before + 1 + length (m .days) ≡ before + length (d ∷ m .days) = omega arith in
     record {
       days-add-up =
           record {
@@ -66,14 +70,15 @@ day-so {rest = rest} {d = d} shows adds more =
                 ∙ sym (append-assoc (linesOfDay d) (flatMap linesOfDay (m .days)) (m .rest));
             add-up = (adds, m .add-up);
             no-day = m .no-day;
+            all-there = subst (λ (D : ℕ). Every (Counts D) (m .rest)) one-more (m .all-there);
           };
       all-decimal = shows .decimal-too rest (more .all-decimal);
     }
 
 -- ---- the parts of a report
 
-refused-back : {n : ℕ} (number line : ℕ) → number ≤ 9 → line < 2 ^ 32 → ReadsBack n (refusedLine number line)
-refused-back number line h k = ends-so (refused-shows number line (omega arith) (omega arith)) (refused-other number line)
+refused-back : {n before : ℕ} (number line : ℕ) → number ≤ 9 → line < 2 ^ 32 → ReadsBack n before (refusedLine number line)
+refused-back number line h k = ends-so (refused-shows number line (omega arith) (omega arith)) (refused-other number line) (refused-counts number line)
 
 -- an accepted day, and the register as it leaves it
 module _ {g : Register} (k : Kept g) (d : DayInput) (clear : refusal g (dayCall g d) ≡ Clear) where
@@ -118,18 +123,19 @@ module _ {g : Register} (k : Kept g) (d : DayInput) (clear : refusal g (dayCall 
   unfolding returned
   summed =
       record {
-        returned-fits = fit .returned-fits clear;
-        written-fits = fit .written-fits clear;
         sums-fit = sums-fit;
         reads = rw append-nil at (day-back .are []);
       }
 
-rest-back : {last : ℕ} {g : Register} {s : List ℕ} → last < 2 ^ 32 → Kept g → Rest last g s → ReadsBack (g .held .n) s
-unfolding accept
+rest-back : {last : ℕ} {g : Register} {s : List ℕ} → last < 2 ^ 32 → Kept g → Rest last g s → ReadsBack (g .held .n) (length (g .days)) s
+unfolding accept returned
 rest-back {g = g} near k (a-day {rest = rest} d clear more) =
-    let members = ap (λ (x : Register). x .held .n) (step-clear g (dayCall g d) clear) in
-    let days = day-so (day-back k d clear) (day-sums k d clear) (rest-back near (fit k d clear .kept) more) in
-    subst (λ (n : ℕ). ReadsBack n (sizedLines (step g (dayCall g d)) d (dayCall g d) ++ rest)) members days
+    let call = dayCall g d in
+    let after = step g call in
+    let members = ap (λ (x : Register). x .held .n) (step-clear g call clear) in
+    let count : length (after .days) ≡ length (g .days) + 1 = ap (λ (x : Register). length (x .days)) (step-clear g call clear) ∙ omega arith in
+    let later = subst (λ (before : ℕ). ReadsBack (after .held .n) before rest) count (rest-back near (fit k d clear .kept) more) in
+    subst (λ (n : ℕ). ReadsBack n (length (g .days)) (sizedLines after d call ++ rest)) members (day-so (day-back k d clear) (day-sums k d clear) later)
 rest-back {g = g} near k (a-fund clear) =
     let call = closingCall g in
     let after = step g call in
@@ -137,13 +143,17 @@ rest-back {g = g} near k (a-fund clear) =
     let few = fit .kept .follows .good .members-few in
     ends-so (fund-shows (after .held .n) (returned after call) (written after call) (fit .returned-fits clear) (fit .written-fits clear) few)
     (fund-other (after .held .n) (returned after call) (written after call))
+    (fund-counts (after .held .n) (returned after call) (written after call) (ap (λ (x : Register). length (x .days)) (step-clear g call clear)))
 rest-back near k (a-refusal number line h in-text) = refused-back number line h (omega arith)
 
-report-back : {n last : ℕ} {s : List ℕ} → last < 2 ^ 32 → Report n last s → ReadsBack n s
+report-back : {n last : ℕ} {s : List ℕ} → last < 2 ^ 32 → Report n last s → ReadsBack n 0 s
 unfolding accept
-report-back {s = s} near (begun o is few clear rest) =
+report-back {n} {s = s} near (begun o is few clear rest) =
+    let after = step start (Call.opening o) in
     let members = ap (λ (x : Register). x .held .n) (step-clear start (Call.opening o) clear) ∙ is in
-    subst (λ (n : ℕ). ReadsBack n s) members (rest-back near (call-fits kept-first (Call.opening o) .kept) rest)
+    let none : length (after .days) ≡ 0 = ap (λ (x : Register). length (x .days)) (step-clear start (Call.opening o) clear) in
+    let back = rest-back near (call-fits kept-first (Call.opening o) .kept) rest in
+    subst (λ (before : ℕ). ReadsBack n before s) none (subst (λ (n : ℕ). ReadsBack n (length (after .days)) s) members back)
 report-back near (not-begun number line h in-text) = refused-back number line h (omega arith)
 
 -- the number of members, off the text's first line
@@ -153,8 +163,8 @@ told [] = refl
 told (f ∷ []) = refl
 told (f ∷ g ∷ fs) = refl
 
-every-report : (text : List ℕ) → ReadsBack (membersIn text) (reportOf text)
-every-report text = subst (λ (n : ℕ). ReadsBack n (reportOf text)) (told (fields (getD (split LF text) 0 []))) (report-back (omega arith) (reports text))
+every-report : (text : List ℕ) → ReadsBack (membersIn text) 0 (reportOf text)
+every-report text = subst (λ (n : ℕ). ReadsBack n 0 (reportOf text)) (told (fields (getD (split LF text) 0 []))) (report-back (omega arith) (reports text))
 
 -- ---- the claim
 
@@ -165,11 +175,17 @@ kept-after k (c ∷ cs) = kept-after (call-fits k c .kept) cs
 pub as-printed : AsPrinted
 as-printed =
     record {
+      record-is = record-is;
       sums-of-five = sums-of-five;
       first-sum-is-T = first-sum-is-T;
       digits-alone = digits-alone;
+      no-leading-zero = no-leading-zero;
       reads-back = reads-back;
       reads-back-as-text = reads-back-as-text;
+      accepted-fits =
+          λ calls c clear.
+          let f = call-fits (kept-after kept-first calls) c in
+          record { returned-fits = f .returned-fits clear; written-fits = f .written-fits clear };
       read-as-summed = λ calls. summed (kept-after kept-first calls);
       all-decimal = λ text. every-report text .all-decimal;
       days-add-up = λ text. every-report text .days-add-up;

@@ -74,7 +74,7 @@ first-digit (suc k) n p h =
     (λ e. rw (List·getD-append (digits k (n / 10)) ((48 + n % 10) ∷ []) 0 0 (some-digits k (n / 10)))
     (first-digit k (n / 10) (omega (arith, ltb-false n 10 e)) (omega (arith, pow-suc 10 (suc k)))))
 
-no-leading-zero : (x : ℕ) → x < 10 ^ 20 → (eqb (getD (decimal x) 0 0) 48 && ltb 1 (length (decimal x))) ≡ false
+pub no-leading-zero : (x : ℕ) → x < 10 ^ 20 → (eqb (getD (decimal x) 0 0) 48 && ltb 1 (length (decimal x))) ≡ false
 unfolding digits
 no-leading-zero zero h = refl
 no-leading-zero (suc x) h = rw (ne-eqb (getD (decimal (suc x)) 0 0) 48 (λ e. omega (arith, first-digit 19 (suc x) (omega arith) h)))

@@ -1,10 +1,11 @@
 -- Document 02, Change 1, of the report as a person reads it off its bytes: "Each sum equals that of the day's records as printed, and the
 -- first equals T." `AsPrinted` is the claim.
 use mathlib.Core.Path.{_≡_}
-use mathlib.Core.Bool.{false, not, _||_}
+use mathlib.Core.Bool.{true, false, not, _&&_, _||_}
 use mathlib.Core.List.{List, [], _∷_, _++_, map, flatMap}
 use mathlib.Core.Option.{some}
-use Prim.Native.Nat.{ℕ, _*_, _^_, _<_}
+use Prim.Native.Nat.{ℕ, _+_, _*_, _^_, _≤_, _<_}
+use lib.Dec.{eqb, ltb}
 use lib.ListN.{length, getD, drop}
 use Rattle.numbers.specs.Lists.{range, any, Every}
 use Rattle.numbers.specs.Sums.{Σ}
@@ -12,7 +13,7 @@ use Rattle.methodology.specs.declared.Refusal.the-variants.{Clear}
 use Rattle.methodology.specs.declared.Opening.{Opening}
 use Rattle.methodology.specs.Account.{DayInput, Account, members}
 use Rattle.methodology.specs.Member.{loss}
-use Rattle.methodology.specs.Day.{total, maxEul, share, value, reserve, estimate, dailies}
+use Rattle.methodology.specs.Day.{total, maxEul, share, value, reserve, estimate, five, dailies}
 use Rattle.methodology.specs.Register.{Call, Register, start, refusal, step, returned, written}
 use Rattle.methodology.specs.Text.{LF, bytes, same, split, fields, isDigit, valueFrom, numberOf, decimal, stretch, totals, dayLines, reportOf}
 use Rattle.demand3.specs.Demand3.{Fits64}
@@ -75,13 +76,19 @@ membersIn text = getD (lineOf (getD (split LF text) 0 []) .numbers) 0 0
 abbrev pub Other : Line → Type 0
 Other l = (same (l .word) (bytes "day") || same (l .word) (bytes "daily") || same (l .word) (bytes "total")) ≡ false
 
--- A report of n members is its accepted days, each of which adds up, and after them other lines.
-pub record DaysAddUp (n : ℕ) (report : List ℕ) : Type 0 where
+-- A fund line with this D, or no fund line.
+abbrev pub Counts : (D : ℕ) → Line → Type 0
+Counts D l = same (l .word) (bytes "fund") ≡ true → getD (l .numbers) 0 0 ≡ D
+
+-- A report of n members, or what is left of it after `before` accepted days, is its accepted days, each of which adds up, and after them
+-- other lines. Where there is a fund its D is the number of the days, so that none is left out.
+pub record DaysAddUp (n before : ℕ) (report : List ℕ) : Type 0 where
   pub days : List DayRead
   pub rest : List Line
   pub whole : linesOf report ≡ flatMap linesOfDay days ++ rest
   pub add-up : Every (AddsUp n) days
   pub no-day : Every Other rest
+  pub all-there : Every (Counts (before + length days)) rest
 
 -- ---- what was summed is what is read
 
@@ -90,11 +97,14 @@ abbrev pub registerFed : Register → List Call → Register
 registerFed g [] = g
 registerFed g (c ∷ cs) = registerFed (step g c) cs
 
--- An accepted day, where g is the register as the call leaves it: what it returned and wrote and the sums of that are below 2^64, and its
--- lines in the report are read as these very numbers, each member's after its own.
-pub record ReadAsSummed (g : Register) (d : DayInput) (call : Call) : Type 0 where
+-- what an accepted call returned and wrote is below 2^64, where g is the register as the call leaves it
+pub record AcceptedFits (g : Register) (call : Call) : Type 0 where
   pub returned-fits : Every Fits64 (returned g call)
   pub written-fits : Every Fits64 (written g call)
+
+-- An accepted day: the sums of what it wrote are below 2^64 too, and its lines in the report are read as these very numbers, each member's
+-- after its own.
+pub record ReadAsSummed (g : Register) (d : DayInput) (call : Call) : Type 0 where
   pub sums-fit : Every Fits64 (totals (g .held .n) (written g call))
   pub reads :
       linesOf (dayLines (d .terms .number) (g .held .n) (returned g call) (written g call))
@@ -124,16 +134,22 @@ sumsOfFive o accts =
     ∷ []
 
 pub record AsPrinted : Type 0 where
-  -- these are the sums of the columns that a day writes
+  -- a member's record is its five numbers, and the sums of the columns are those of the five
+  pub record-is : (o : Opening) (accts : List Account) (m : ℕ) → 1 ≤ m → m ≤ o .n
+      → stretch 5 m (dailies o accts) ≡ five (loss (o .k) accts m) (maxEul o accts) (total o accts)
   pub sums-of-five : (o : Opening) (accts : List Account) → totals (o .n) (dailies o accts) ≡ sumsOfFive o accts
   -- "and the first equals T"
   pub first-sum-is-T : (o : Opening) (accts : List Account) → getD (totals (o .n) (dailies o accts)) 0 0 ≡ total o accts
-  -- A number below 10^20 is printed in digits alone, which have its value; where there are at most 13 they are that number to the reader of
-  -- a text.
+  -- A number below 10^20 is printed in digits alone, with no leading zero, which have its value; where there are at most 13 they are that
+  -- number to the reader of a text.
   pub digits-alone : (x : ℕ) → any (λ b. not (isDigit b)) (decimal x) ≡ false
+  pub no-leading-zero : (x : ℕ) → x < 10 ^ 20 → (eqb (getD (decimal x) 0 0) 48 && ltb 1 (length (decimal x))) ≡ false
   pub reads-back : (x : ℕ) → x < 10 ^ 20 → valueFrom 0 (decimal x) ≡ x
   pub reads-back-as-text : (x : ℕ) → x < 10 ^ 13 → numberOf (decimal x) ≡ some x
-  -- every accepted day, after any calls
+  -- every accepted call, and every accepted day, after any calls
+  pub accepted-fits : (calls : List Call) (c : Call)
+      → let g = registerFed start calls in
+      refusal g c ≡ Clear → AcceptedFits (step g c) c
   pub read-as-summed : (calls : List Call) (d : DayInput)
       → let g = registerFed start calls in
       let call = Call.day d (5 * g .held .n) in
@@ -141,4 +157,4 @@ pub record AsPrinted : Type 0 where
   -- every line of every report
   pub all-decimal : (text : List ℕ) → Every InDecimal (split LF (reportOf text))
   -- "Each sum equals that of the day's records as printed, and the first equals T."
-  pub days-add-up : (text : List ℕ) → DaysAddUp (membersIn text) (reportOf text)
+  pub days-add-up : (text : List ℕ) → DaysAddUp (membersIn text) 0 (reportOf text)

@@ -40,6 +40,10 @@ module _ {A B : Type 0} (w : ℕ) (f : A → List B) (wide : (x : A) → length 
   unfolding flatMap
   rows-at xs i j d e h k = rw (← getD-drop, rows-drop, drop-cons xs i d) (List·getD-append (f (getD xs i d)) (flatMap f (drop (suc i) xs)) e j (omega (arith, wide (getD xs i d))))
 
+  pub rows-part : (xs : List A) (i : ℕ) (d : A) → i < length xs → take w (drop (w * i) (flatMap f xs)) ≡ f (getD xs i d)
+  unfolding flatMap
+  rows-part xs i d h = rw (rows-drop, drop-cons xs i d) (take-at (f (getD xs i d)) (flatMap f (drop (suc i) xs)) w (wide (getD xs i d)))
+
   -- a buffer filled row by row: no row yet; row i put over its stretch; at the end nothing else is left
   pub rows-none : (xs : List A) (out₀ : List B) → out₀ ≡ flatMap f (take 0 xs) ++ drop (w * 0) out₀
   unfolding flatMap
