@@ -76,8 +76,8 @@ FROM = {
     "ceilDiv": "Rattle.numbers.specs.Rounding", "Σ": "Rattle.numbers.specs.Sums",
     "greatest": "Rattle.numbers.specs.Sums", "_⁻": "Rattle.numbers.specs.Signed",
     "take": "lib.ListN", "drop": "lib.ListN", "false": "mathlib.Core.Bool", "true": "mathlib.Core.Bool",
-    "withGroups": "Rattle.methodology.specs.Account", "scale": "Rattle.methodology.specs.Day",
-    "dailies": "Rattle.methodology.specs.Day", "map": "mathlib.Core.List",
+    "withGroups": "Rattle.methodology.specs.Account", "dailies": "Rattle.methodology.specs.Day",
+    "map": "mathlib.Core.List",
 }
 
 # ---- wrong definitions that no change of one word makes: file, right, wrong
@@ -169,7 +169,7 @@ Text.columnSum | Σ (members n) | Σ (members (n - 1))
 Text.columnSum | Σ (members n) | Σ (range 2 (n - 1))
 Text.dayLines | (totals n out) | (n ∷ totals n out)
 Text.dayLines | (totals n out) | (totals n (take 5 out))
-Text.dayLines | (totals n out) | (columnSum 5 n out 0 ∷ scale ∷ drop 2 (totals n out))
+Text.dayLines | (totals n out) | (columnSum 5 n out 0 ∷ 1000000000000 ∷ drop 2 (totals n out))
 Text.dayLines | (totals n out) | (columnSum 5 n out 0 ∷ columnSum 5 n out 1 ∷ columnSum 5 n out 2 ∷ columnSum 5 n out 3 ∷ 2 * columnSum 5 n out 3 ∷ [])
 Text.dayLines | (totals n out) | (columnSum 5 n out 0 ∷ columnSum 5 n out 1 ∷ columnSum 5 n out 2 ∷ 11 * columnSum 5 n out 2 / 10 ∷ columnSum 5 n out 4 ∷ [])
 Text.dayLines | (totals n out) | (columnSum 5 n out 0 ∷ columnSum 5 n out 1 ∷ 100 * getD answer 1 0 ∷ drop 3 (totals n out))
