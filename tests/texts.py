@@ -269,7 +269,7 @@ WORKED_ONLY = [
     ("32 members, each with a loss of its own", month(1, [0] * 30 + [32, 32], (31, *(house(i, i * i) for i in range(1, 33))))),
     ("31 days, each with a loss of its own, the first of a dollar", month(1, [0], *((i, house(1, i * i)) for i in range(1, 32)))),
     ("two days of one Max EUL and unlike T", month(1, [0, 0], (1, house(1, 10), house(2, 0)), (2, house(1, 10), house(2, 5)))),
-    ("a sum of 18 digits", month(1, [0, 0], (3, house(1, 1), *(acct(1, i, "U", 10**12 - 7 * i, 0, 0, 3 * i - 10**12) for i in range(1, 161)),
+    ("sums of 17 digits", month(1, [0, 0], (3, house(1, 1), *(acct(1, i, "U", 10**12 - 7 * i, 0, 0, 3 * i - 10**12) for i in range(1, 41)),
                                             house(2, 10**12 - 1)))),
     ("5 at account 255", month(1, [0], (1, house(1, 1), *(acct(1, i, "U", 1, 0, 0, 0) for i in [*range(1, 255), 65536])))),
     ("a period line of a field too few", example((1, fewer(period(2, 1))))),
