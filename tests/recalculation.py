@@ -1,5 +1,5 @@
 #!/usr/bin/env python3
-"""Document 01, with Change 1 of document 02, recalculated in its own order, with exact fractions.
+"""Document 01, with Changes 1 and 2 of document 02, recalculated in its own order, with exact fractions.
 
 Reads a month's text on standard input and writes the report on standard output.
 """
@@ -84,7 +84,7 @@ def nearest(fraction):
 
 def three(m, d, shares):
     """A member's raw charge, funded and unfunded contribution, from its share of each day."""
-    raw = ceil(Fraction(11 * m * sum(shares), 10 * d * SHARE))
+    raw = ceil(Fraction(11 * m * sum(shares), 10 * d * SHARE)) if d > 0 else 0
     funded = max(raw, MINIMUM)
     return [raw, funded, 2 * funded]
 
@@ -147,8 +147,6 @@ class Period:
 
     def closing(self):
         """The closing call: D, M, the total funded and three numbers a member."""
-        if self.D == 0:
-            raise Refusal(8)
         threes = [three(self.M, self.D, shares) for shares in self.shares]
         return self.D, self.M, sum(figures[1] for figures in threes), threes
 
@@ -244,7 +242,7 @@ def month(text, say):
         values(fields, b"end", [])
         if not lines.end():
             raise Refused(9, lines.at + 1)      # nothing follows end
-        d, m, total, threes = call(period.closing, {8: lines.at})
+        d, m, total, threes = period.closing()  # which meets no row
     except Refusal as refusal:                  # of the text
         raise Refused(refusal.number, lines.at)
     say("fund", d, m, total)

@@ -143,8 +143,8 @@ BOTH = [
     ("lf after end", example() + "\n"),
     ("byte after end", example() + "x"),
     ("second end", example((7, END, END))),
-    ("9 after end before 8", month(1, [0]) + "\n"),
-    ("8 at the end line", month(1, [0])),
+    ("lf after end, and no day", month(1, [0]) + "\n"),
+    ("no day", month(1, [0])),
     ("second period", example((7, period(2, 1)))),
     ("empty line", example((4, "", day(3, 2)))),
     ("end with a field", example((7, more(END, "")))),
@@ -385,7 +385,7 @@ VECTORS_ONLY = [
     ("5 for a house account of number 65535", stored("house-65535")),
     ("3 for day 32 after an accepted one", month(1, [0, 0], (9, falls(1, 184582221), falls(2, 7)), (32, falls(1, 59106101), falls(2, 7)),
                                                  (21, falls(1, 647391105), falls(2, 7)))),
-    ("9 for a second end before 8", month(1, [0, 0, 0]) + text(END)),
+    ("9 for a second end, and no day", month(1, [0, 0, 0]) + text(END)),
     ("5 for a house account of kind R and a blank", stored("kind-r-and-blank")),
     ("9 for a group of a minus and a leading zero", stored("group-minus-01")),
     ("5 on a fourth day: the last member is missing", stored("last-member-missing")),
@@ -453,7 +453,25 @@ TOTALS = [
     ("two days with their totals; 9 on a third for a tab too many before a stress", stored("totals-43")),
 ]
 
+# Months that have not begun (document 02, Change 2), by their groups.
+NOT_BEGUN = [
+    ("no day, four members, two of them in one group", month(3, [32, 1, 32, 0])),
+    ("no day, n and k at their limits, all members in group 32", month(16, [32] * 32)),
+    ("no day, three members", month(1, [0, 0, 0])),
+    ("no day, a member in group 32", month(1, [32])),
+    ("no day, the last of three members in group 32", month(1, [0, 0, 32])),
+    ("no day, two members", month(1, [0, 0])),
+    ("no day, the first of two members in a group", month(3, [1, 0])),
+    ("no day, the first of four members in group 32", month(3, [32, 0, 0, 0])),
+    ("no day, two scenarios", month(2, [0])),
+    ("no day, the second and the last of four members in one group", month(3, [0, 1, 0, 1])),
+    ("no day, two groups of one member each", month(1, [1, 32])),
+    ("no day, a member in group 19", month(1, [19])),
+    ("no day, a member in group 23", month(1, [23])),
+    ("no day, four groups of one member each", month(3, [28, 4, 5, 19])),
+]
+
 # Of the months of VALID the longest is run by `vectors` alone, of those of TOTALS all but these: cents rounded both ways, a group, two days
-# of one T, a day whose cents are 0, equal days.
-WORKED = BOTH + WORKED_ONLY + VALID[:5] + VALID[6:] + [TOTALS[i] for i in (1, 6, 12, 14, 15)]
-VECTORS = BOTH + VALID + VECTORS_ONLY + TOTALS
+# of one T, a day whose cents are 0, equal days; of those of NOT_BEGUN the first two are worked out.
+WORKED = BOTH + WORKED_ONLY + VALID[:5] + VALID[6:] + [TOTALS[i] for i in (1, 6, 12, 14, 15)] + NOT_BEGUN[:2]
+VECTORS = BOTH + VALID + VECTORS_ONLY + TOTALS + NOT_BEGUN

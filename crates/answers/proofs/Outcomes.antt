@@ -129,15 +129,14 @@ pub data OfClosing : Outcome → Type 0 where
   closed : (days highest funds : ℕ) → OfClosing (Closed days highest funds)
   unclosed : (number : ℕ) → OfClosing (Refused number)
 
-closing-no-index : (s : Status) (o : Opening) (D room number index : ℕ) → closingRefusal s o D room ≡ RowAt number index → ⊥
+closing-no-index : (s : Status) (o : Opening) (room number index : ℕ) → closingRefusal s o room ≡ RowAt number index → ⊥
 unfolding closingRefusal row_when_else_
-closing-no-index s o D room number index e = by (not (isOpen s)) (eqb D 0) (not (eqb room (3 * o .n))) e
+closing-no-index s o room number index e = by (not (isOpen s)) (not (eqb room (3 * o .n))) e
   where
-    by : (b2 b8 b4 : Bool) → cond b2 (Row 2) (cond b8 (Row 8) (cond b4 (Row 4) Clear)) ≡ RowAt number index → ⊥
-    by true b8 b4 e = let z : _≡_ {A = ℕ} 0 1 = cc in omega arith
-    by false true b4 e = let z : _≡_ {A = ℕ} 0 1 = cc in omega arith
-    by false false true e = let z : _≡_ {A = ℕ} 0 1 = cc in omega arith
-    by false false false e = let z : _≡_ {A = ℕ} 0 1 = cc in omega arith
+    by : (b2 b4 : Bool) → cond b2 (Row 2) (cond b4 (Row 4) Clear) ≡ RowAt number index → ⊥
+    by true b4 e = let z : _≡_ {A = ℕ} 0 1 = cc in omega arith
+    by false true e = let z : _≡_ {A = ℕ} 0 1 = cc in omega arith
+    by false false e = let z : _≡_ {A = ℕ} 0 1 = cc in omega arith
 
 pub closing-outcome : {p : Period} {before after : List ℕ} {r : Reply} → ClosingMeets p before r after → OfClosing (r .outcome)
 unfolding closingRow
@@ -148,7 +147,7 @@ closing-outcome {p} {before} {r = r} m = by (r .outcome) _ _ _ (m .answer)
     by (Refused number) a b c e = unclosed number
     by Opened a b c e = absurd (let z : 3 ≡ 0 = same-count (closingRow p (length before)) (a ∷ b ∷ c ∷ []) [] e in omega arith)
     by (Sized total max) a b c e = absurd (let z : 3 ≡ 2 = same-count (closingRow p (length before)) (a ∷ b ∷ c ∷ []) (total ∷ max ∷ []) e in omega arith)
-    by (RefusedAt number index) a b c e = absurd (closing-no-index (statusOf p) (heldBy p) (p .accrued .days) (length before) number index (is-row-at _ _ _ _ (sym e)))
+    by (RefusedAt number index) a b c e = absurd (closing-no-index (statusOf p) (heldBy p) (length before) number index (is-row-at _ _ _ _ (sym e)))
 
 pub closing-line : {o : Outcome} (line : ℕ) → OfClosing o → lineSaid o line ≡ line
 unfolding lineSaid

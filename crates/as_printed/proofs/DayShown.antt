@@ -1,19 +1,24 @@
 -- What a call's answer prints, as it is read back: an accepted day's lines add up, and a closing's lines and a refusal's are no day's.
 use mathlib.Core.Path.{_≡_, refl, sym, ap, subst, _∙_}
-use mathlib.Core.Bool.{true≢false}
+use mathlib.Core.Bool.{true, true≢false}
 use mathlib.Core.List.{List, [], _∷_, _++_, map, map-map, map-id}
 use Prim.Native.Nat.{ℕ, suc, _-_, _*_, _≤_}
 use native.Mathlib.Omega.{arith}
 use lib.ListN.{length, getD}
 use Rattle.numbers.specs.Lists.{range, any, Every}
 use Rattle.numbers.specs.Sums.{Σ}
-use Rattle.numbers.proofs.Lists.{mem-range, part-length, every-map, every-take, every-drop}
+use Rattle.numbers.proofs.Lists.{mem-range, part-length, every-append, every-map, every-take, every-drop}
 use Rattle.numbers.proofs.Sums.{Σ-map}
 use Rattle.methodology.specs.Account.{members}
 use Rattle.methodology.specs.Text.{bytes, same, stretch, refusedLine, rows, columnSum, totals, dayLines, fundLines}
+use Rattle.methodology.proofs.RowLimits.{occurs}
 use Rattle.demand3.specs.Demand3.{Fits64}
 use Rattle.as_printed.specs.AsPrinted.{Line, worded, DayRead, linesOfDay, AddsUp, Other, Counts}
 use Rattle.as_printed.proofs.PrintedLines.{Word, Shows, shows-line, shows-then, shows-each}
+
+-- a line that tells of a refusal has a number that occurs
+abbrev pub Told : Line → Type 0
+Told l = same (l .word) (bytes "refused") ≡ true → occurs (getD (l .numbers) 0 0) ≡ true
 
 -- member m's line has its number before its stretch
 abbrev ofMember : (width : ℕ) (out : List ℕ) (m : ℕ) → List ℕ
@@ -55,6 +60,12 @@ module _ (number n T Max : ℕ) (out : List ℕ) where
         first-is = first;
       }
 
+  pub day-told : Every Told (linesOfDay asRead)
+  unfolding bytes same
+  day-told =
+      let daily = every-map Told (worded (bytes "daily")) (asRead .records) (λ numbers i e. absurd (true≢false (sym e))) in
+      ((λ e. absurd (true≢false (sym e))), every-append Told (map (worded (bytes "daily")) (asRead .records)) _ daily ((λ e. absurd (true≢false (sym e))), tt))
+
 -- ---- what ends a report
 
 abbrev fundRead : (n : ℕ) (figures out : List ℕ) → List Line
@@ -75,6 +86,11 @@ pub fund-counts : {D : ℕ} (n : ℕ) (figures out : List ℕ) → getD figures 
 unfolding bytes same
 fund-counts {D} n figures out is = ((λ e. is), every-map (Counts D) _ (members n) (λ m i e. absurd (true≢false (sym e))))
 
+-- no line of it tells of a refusal
+pub fund-told : (n : ℕ) (figures out : List ℕ) → Every Told (fundRead n figures out)
+unfolding bytes same
+fund-told n figures out = ((λ e. absurd (true≢false (sym e))), every-map Told _ (members n) (λ m i e. absurd (true≢false (sym e))))
+
 pub refused-shows : (number line : ℕ) → Fits64 number → Fits64 line → Shows (refusedLine number line) (worded (bytes "refused") (number ∷ line ∷ []) ∷ [])
 unfolding bytes any
 refused-shows number line h k = shows-line (bytes "refused") (number ∷ line ∷ []) (refl, refl) (h, (k, tt))
@@ -86,3 +102,6 @@ refused-other number line = (refl, tt)
 pub refused-counts : {D : ℕ} (number line : ℕ) → Every (Counts D) (worded (bytes "refused") (number ∷ line ∷ []) ∷ [])
 unfolding bytes same
 refused-counts number line = ((λ e. absurd (true≢false (sym e))), tt)
+
+pub refused-told : (number line : ℕ) → occurs number ≡ true → Every Told (worded (bytes "refused") (number ∷ line ∷ []) ∷ [])
+refused-told number line h = ((λ e. h), tt)

@@ -1,7 +1,7 @@
 -- Every report read back, by what it is made of: the lines of each accepted day add up, and what ends the report has no day's lines. With
 -- it the claim is whole: `as-printed`.
 use mathlib.Core.Path.{_≡_, refl, sym, ap, subst, _∙_}
-use mathlib.Core.Bool.{true≢false}
+use mathlib.Core.Bool.{true, true≢false}
 use mathlib.Core.List.{List, [], _∷_, _++_, map, flatMap, append-nil, append-assoc}
 use Prim.Native.Nat.{ℕ, _+_, _*_, _≤_, _<_, _^_}
 use native.Mathlib.Nat.{add-zero}
@@ -15,6 +15,7 @@ use Rattle.methodology.specs.Day.{total, maxEul}
 use Rattle.methodology.specs.Register.{Call, Register, start, refusal, accept, step, returned, written}
 use Rattle.methodology.specs.Text.{LF, bytes, same, split, fields, valueFrom, refusedLine, totals, reportOf}
 use Rattle.methodology.proofs.Passed.{step-clear}
+use Rattle.methodology.proofs.RowLimits.{occurs, at-most-9}
 use Rattle.methodology.proofs.Enough.{rises}
 use Rattle.methodology.proofs.Reports.{dayCall, closingCall, sizedLines, Rest, a-day, a-fund, a-refusal, Report, begun, not-begun, reports}
 use Rattle.fund.proofs.Dailies.{dailies-long}
@@ -25,13 +26,14 @@ use Rattle.as_printed.specs.AsPrinted.{Line, linesOf, InDecimal, DayRead
 use Rattle.as_printed.proofs.DaySums.{record-is, sums-of-five, first-sum-is-T}
 use Rattle.as_printed.proofs.ReadBack.{digits-alone, no-leading-zero, reads-back, reads-back-as-text}
 use Rattle.as_printed.proofs.PrintedLines.{Shows}
-use Rattle.as_printed.proofs.DayShown.{asRead, day-shows, day-adds-up, fund-shows, fund-other, fund-counts, refused-shows, refused-other, refused-counts}
+use Rattle.as_printed.proofs.DayShown.{Told, asRead, day-shows, day-adds-up, day-told, fund-shows, fund-other, fund-counts, fund-told, refused-shows, refused-other, refused-counts, refused-told}
 
 -- ---- what is read back
 
 record ReadsBack (n before : ℕ) (report : List ℕ) : Type 0 where
   days-add-up : DaysAddUp n before report
   all-decimal : Every InDecimal (split LF report)
+  all-told : Every Told (linesOf report)
 
 -- nothing after the last LF
 last-part : Every InDecimal (split LF [])
@@ -39,25 +41,29 @@ unfolding split
 last-part = (record { fields-are = refl; fit = tt }, tt)
 
 -- lines of no day end a report
-ends-so : {n before : ℕ} {s : List ℕ} {lines : List Line} → Shows s lines → Every Other lines → Every (Counts before) lines → ReadsBack n before s
+ends-so : {n before : ℕ} {s : List ℕ} {lines : List Line} → Shows s lines → Every Other lines → Every (Counts before) lines → Every Told lines
+    → ReadsBack n before s
 unfolding flatMap split same bytes
-ends-so {before = before} {s = s} {lines = lines} shows other counts =
+ends-so {before = before} {s = s} {lines = lines} shows other counts told =
+    let whole = subst (λ (l : List ℕ). linesOf l ≡ lines ++ linesOf []) (append-nil s) (shows .are []) in
     record {
       days-add-up =
           record {
             days = [];
             rest = lines ++ linesOf [];
-            whole = subst (λ (l : List ℕ). linesOf l ≡ lines ++ linesOf []) (append-nil s) (shows .are []);
+            whole = whole;
             add-up = tt;
             no-day = every-append Other lines (linesOf []) other (refl, tt);
             all-there = rw add-zero (every-append (Counts before) lines (linesOf []) counts ((λ e. absurd (true≢false (sym e))), tt));
           };
       all-decimal = subst (λ (l : List ℕ). Every InDecimal (split LF l)) (append-nil s) (shows .decimal-too [] last-part);
+      all-told = rw whole (every-append Told lines (linesOf []) told ((λ e. absurd (true≢false (sym e))), tt));
     }
 
-day-so : {n before : ℕ} {s rest : List ℕ} {d : DayRead} → Shows s (linesOfDay d) → AddsUp n d → ReadsBack n (before + 1) rest → ReadsBack n before (s ++ rest)
+day-so : {n before : ℕ} {s rest : List ℕ} {d : DayRead} → Shows s (linesOfDay d) → AddsUp n d → Every Told (linesOfDay d) → ReadsBack n (before + 1) rest
+    → ReadsBack n before (s ++ rest)
 unfolding flatMap
-day-so {before = before} {rest = rest} {d = d} shows adds more =
+day-so {before = before} {rest = rest} {d = d} shows adds told more =
     let m = more .days-add-up in
     let one-more : before + 1 + length (m .days) ≡ before + length (d ∷ m .days) = omega arith in
     record {
@@ -73,12 +79,13 @@ day-so {before = before} {rest = rest} {d = d} shows adds more =
             all-there = subst (λ (D : ℕ). Every (Counts D) (m .rest)) one-more (m .all-there);
           };
       all-decimal = shows .decimal-too rest (more .all-decimal);
+      all-told = rw (shows .are rest) (every-append Told (linesOfDay d) (linesOf rest) told (more .all-told));
     }
 
 -- ---- the parts of a report
 
-refused-back : {n before : ℕ} (number line : ℕ) → number ≤ 9 → line < 2 ^ 32 → ReadsBack n before (refusedLine number line)
-refused-back number line h k = ends-so (refused-shows number line (omega arith) (omega arith)) (refused-other number line) (refused-counts number line)
+refused-back : {n before : ℕ} (number line : ℕ) → occurs number ≡ true → line < 2 ^ 32 → ReadsBack n before (refusedLine number line)
+refused-back number line h k = ends-so (refused-shows number line (omega (arith, at-most-9 number h)) (omega arith)) (refused-other number line) (refused-counts number line) (refused-told number line h)
 
 -- an accepted day, and the register as it leaves it
 module _ {g : Register} (k : Kept g) (d : DayInput) (clear : refusal g (dayCall g d) ≡ Clear) where
@@ -119,6 +126,9 @@ module _ {g : Register} (k : Kept g) (d : DayInput) (clear : refusal g (dayCall 
   unfolding written
   day-sums = day-adds-up (d .terms .number) n T Max out (dailies-long (after .held) _) (first-sum-is-T (after .held) _)
 
+  no-refusal : Every Told (linesOfDay (asRead (d .terms .number) n T Max out))
+  no-refusal = day-told (d .terms .number) n T Max out
+
   summed : ReadAsSummed after d call
   unfolding returned
   summed =
@@ -135,7 +145,7 @@ rest-back {g = g} near k (a-day {rest = rest} d clear more) =
     let members = ap (λ (x : Register). x .held .n) (step-clear g call clear) in
     let count : length (after .days) ≡ length (g .days) + 1 = ap (λ (x : Register). length (x .days)) (step-clear g call clear) ∙ omega arith in
     let later = subst (λ (before : ℕ). ReadsBack (after .held .n) before rest) count (rest-back near (fit k d clear .kept) more) in
-    subst (λ (n : ℕ). ReadsBack n (length (g .days)) (sizedLines after d call ++ rest)) members (day-so (day-back k d clear) (day-sums k d clear) later)
+    subst (λ (n : ℕ). ReadsBack n (length (g .days)) (sizedLines after d call ++ rest)) members (day-so (day-back k d clear) (day-sums k d clear) (no-refusal k d clear) later)
 rest-back {g = g} near k (a-fund clear) =
     let call = closingCall g in
     let after = step g call in
@@ -144,6 +154,7 @@ rest-back {g = g} near k (a-fund clear) =
     ends-so (fund-shows (after .held .n) (returned after call) (written after call) (fit .returned-fits clear) (fit .written-fits clear) few)
     (fund-other (after .held .n) (returned after call) (written after call))
     (fund-counts (after .held .n) (returned after call) (written after call) (ap (λ (x : Register). length (x .days)) (step-clear g call clear)))
+    (fund-told (after .held .n) (returned after call) (written after call))
 rest-back near k (a-refusal number line h in-text) = refused-back number line h (omega arith)
 
 report-back : {n last : ℕ} {s : List ℕ} → last < 2 ^ 32 → Report n last s → ReadsBack n 0 s
@@ -165,6 +176,9 @@ told (f ∷ g ∷ fs) = refl
 
 every-report : (text : List ℕ) → ReadsBack (membersIn text) 0 (reportOf text)
 every-report text = subst (λ (n : ℕ). ReadsBack n 0 (reportOf text)) (told (fields (getD (split LF text) 0 []))) (report-back (omega arith) (reports text))
+
+pub refusals-told : (text : List ℕ) → Every Told (linesOf (reportOf text))
+refusals-told text = every-report text .all-told
 
 -- ---- the claim
 

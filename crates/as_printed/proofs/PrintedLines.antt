@@ -17,7 +17,7 @@ use Rattle.as_printed.proofs.ReadBack.{Digit, reads-back, all-digits}
 
 -- ---- parts
 
-abbrev Without : (b : ℕ) → List ℕ → Type 0
+abbrev pub Without : (b : ℕ) → List ℕ → Type 0
 Without b s = Every (λ x. eqb x b ≡ false) s
 
 ended : (b : ℕ) (s rest : List ℕ) → Without b s → split b (s ++ b ∷ rest) ≡ s ∷ split b rest
@@ -39,23 +39,23 @@ decimal-without b x h = every-weaken Digit _ (λ y d. ne-eqb y b (λ e. omega (a
 abbrev pub Word : List ℕ → Type 0
 Word w = (any (λ x. eqb x tab) w ≡ false) × (any (λ x. eqb x LF) w ≡ false)
 
-without : (b : ℕ) (w : List ℕ) → any (λ x. eqb x b) w ≡ false → Without b w
+pub without : (b : ℕ) (w : List ℕ) → any (λ x. eqb x b) w ≡ false → Without b w
 without b w e = mem-every _ w (λ x i. any-false (λ x. eqb x b) e i)
 
 -- the fields after the word, and the line before its LF
-abbrev tabbed : List ℕ → List ℕ
+abbrev pub tabbed : List ℕ → List ℕ
 tabbed numbers = flatMap (λ x. tab ∷ decimal x) numbers
 
-abbrev lineWith : (word numbers : List ℕ) → List ℕ
+abbrev pub lineWith : (word numbers : List ℕ) → List ℕ
 lineWith w numbers = w ++ tabbed numbers
 
-line-fields : (w numbers : List ℕ) → Without tab w → fields (lineWith w numbers) ≡ w ∷ map decimal numbers
+pub line-fields : (w numbers : List ℕ) → Without tab w → fields (lineWith w numbers) ≡ w ∷ map decimal numbers
 unfolding flatMap
 line-fields w [] h = rw append-nil (unended tab w h)
 line-fields w (x ∷ xs) h =
     ended tab w (lineWith (decimal x) xs) h ∙ ap (λ (l : List (List ℕ)). w ∷ l) (line-fields (decimal x) xs (decimal-without tab x (omega arith)))
 
-line-ended : (w numbers rest : List ℕ) → Without LF w → split LF (printed w numbers ++ rest) ≡ lineWith w numbers ∷ split LF rest
+pub line-ended : (w numbers rest : List ℕ) → Without LF w → split LF (printed w numbers ++ rest) ≡ lineWith w numbers ∷ split LF rest
 unfolding printed
 line-ended w numbers rest h =
     let other : ℕ → Type 0 = λ x. eqb x LF ≡ false in

@@ -20,16 +20,6 @@ use Rattle.fund.specs.Counted.{Counted}
 use Rattle.fund.proofs.Cover.{exact-proper, raw-least, raw-close, raws-least, raws-close, funded-sum}
 use Rattle.demand3.specs.Demand3.{rawIn, fundedIn, Covers}
 
--- a day with a total above 0 has members
-some-members : (o : Opening) (days : List KeptDay) → Counted o days → 0 < length days → 0 < o .n
-unfolding total Σ range
-some-members o [] c h = absurd (omega arith)
-some-members o (d ∷ days) c h = by (o .n) refl
-  where
-    by : (n : ℕ) → o .n ≡ n → 0 < n
-    by zero e = absurd (omega (arith, rw e at (c .0)))
-    by (suc n) e = omega arith
-
 pub three-wide : (r : ℕ) → length (three r) ≡ 3
 unfolding three
 three-wide r = refl
@@ -77,20 +67,20 @@ allowance-proper : (M : ℕ) → Proper (allowance M)
 unfolding allowance
 allowance-proper M = omega arith
 
--- g is the register as the closing leaves it
-pub covers : (g : Register) (room : ℕ) → Counted (g .held) (g .days) → 0 < length (g .days) → Covers g (accepted (returned g (Call.closing room))) (written g (Call.closing room))
+-- g is the register as the closing leaves it; it has members, but it may have no days
+pub covers : (g : Register) (room : ℕ) → Counted (g .held) (g .days) → 0 < g .held .n → Covers g (accepted (returned g (Call.closing room))) (written g (Call.closing room))
 unfolding returned written
-covers g room c d =
+covers g room c some =
     let o = g .held in
     let days = g .days in
     record {
       long = contributions-long o days;
       returns = ap (λ (funds : ℕ). accepted (length days ∷ highest o days ∷ funds ∷ [])) (sym (fundeds-are o days));
-      proper = λ m low high. exact-proper o days c d m;
+      proper = λ m low high. exact-proper o days c m;
       allowed = allowance-proper (highest o days);
-      at-least = λ m low high. rw (raw-is o days m low high) (raw-least o days c d m);
-      below = λ m low high. rw (raw-is o days m low high) (raw-close o days c d m);
-      all-at-least = rw (raws-are o days) (raws-least o days c d);
-      all-below = rw (raws-are o days) (raws-close o days c d (some-members o days c d));
+      at-least = λ m low high. rw (raw-is o days m low high) (raw-least o days c m);
+      below = λ m low high. rw (raw-is o days m low high) (raw-close o days c m);
+      all-at-least = rw (raws-are o days) (raws-least o days c);
+      all-below = rw (raws-are o days) (raws-close o days c some);
       excess = excess-is o days;
     }

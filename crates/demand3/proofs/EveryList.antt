@@ -1,23 +1,22 @@
 -- Demand 3 of every list of calls: by the calls one after another, each of which the register follows.
-use mathlib.Core.Path.{_≡_, refl, _∙_}
-use mathlib.Core.Bool.{not}
+use mathlib.Core.Path.{_≡_, refl, sym, ap, _∙_}
 use mathlib.Core.List.{List, [], _∷_, _++_}
 use Prim.Native.Nat.{ℕ, _<_}
 use native.Mathlib.Omega.{arith}
-use lib.Dec.{eqb}
 use lib.ListN.{length}
-use borrow.Author.Tests.{eqb-false}
 use Rattle.methodology.specs.declared.Refusal.{Refusal}
 use Rattle.methodology.specs.declared.Refusal.the-variants.{Clear, Row, RowAt}
 use Rattle.methodology.specs.declared.Opening.{Opening}
-use Rattle.methodology.specs.Refusals.{isOpen, closingRefusal}
 use Rattle.methodology.specs.Register.{Call, Register, refusal, accept, ifAccepted, step, returned, written, accepted, answer, buffer}
-use Rattle.methodology.proofs.Passed.{passed}
+use Rattle.methodology.proofs.Passed.{step-clear}
+use Rattle.validation.proofs.OpeningPasses.{opening-leaves}
 use Rattle.period.specs.declared.Period.{Period}
 use Rattle.period.specs.declared.Reply.{Reply}
 use Rattle.period.specs.Reading.{answerOf}
+use Rattle.period.specs.Calls.{heldBy}
 use Rattle.period.specs.Follows.{Good, Follows}
-use Rattle.period.proofs.Simulation.{opening-follows, day-follows, closing-follows}
+use Rattle.period.proofs.Closings.{closable, in-range}
+use Rattle.period.proofs.Simulation.{held-by, closing-row, opening-follows, day-follows, closing-follows}
 use Rattle.demand3.specs.Made.{Asked, Made, callOf, Meets, MadeOn}
 use Rattle.demand3.specs.Demand3.{Agrees, Covers, AtClosing, Holds, registerAfter}
 use Rattle.demand3.proofs.Covering.{covers}
@@ -32,23 +31,23 @@ nothing-written g o = by (refusal g (Call.opening o))
     by (Row number) = refl
     by (RowAt number index) = refl
 
--- a closing that passes row 8 has days
-days-kept : (g : Register) (room : ℕ) → refusal g (Call.closing room) ≡ Clear → 0 < length (step g (Call.closing room) .days)
-unfolding step accept refusal closingRefusal
-days-kept g room e =
-    let (_, r) = passed 2 (not (isOpen (g .status))) _ e in
-    let (z, _) = passed 8 (eqb (length (g .days)) 0) _ r in
-    let some = eqb-false (length (g .days)) 0 z in
-    rw e (omega arith)
+-- a period that is closed was opened, and so has members
+some-members : {g : Register} {p : Period} → Follows g p → (room : ℕ) → refusal g (Call.closing room) ≡ Clear → 0 < step g (Call.closing room) .held .n
+unfolding accept
+some-members {g} {p} f room e =
+    let range = in-range (closable p room (closing-row f room ∙ e)) in
+    let o = opening-leaves (heldBy p) (range .opened) in
+    let held : heldBy p .n ≡ step g (Call.closing room) .held .n = ap (λ (o : Opening). o .n) (held-by f) ∙ ap (λ (g : Register). g .held .n) (sym (step-clear g (Call.closing room) e)) in
+    omega (arith, o .members-some)
 
-closes : (g : Register) (c : Made) → Agrees g c → Good (step g (callOf (c .asked))) → AtClosing g c
+closes : {g : Register} {p : Period} → Follows g p → (c : Made) → Agrees g c → Good (step g (callOf (c .asked))) → AtClosing g c
 unfolding answer buffer
-closes g c a q out is e =
+closes {g} f c a q out is e =
     let k = Call.closing (length out) in
     let clear : refusal g k ≡ Clear = rw is at e in
     let said : answerOf (c .reply .outcome) ≡ accepted (returned (step g k) k) = a .answer ∙ rw (is, clear) in
     let wrote : c .after ≡ written (step g k) k = a .buffer ∙ rw (is, clear) in
-    rw (said, wrote, is) (covers (step g k) (length out) (rw is at (q .counted)) (days-kept g (length out) clear))
+    rw (said, wrote, is) (covers (step g k) (length out) (rw is at (q .counted)) (some-members f (length out) clear))
 
 -- one call, which the register follows
 pub agrees : {g : Register} {p : Period} → Follows g p → (a : Asked) (r : Reply) (after : List ℕ) → Meets p a r after
@@ -67,7 +66,7 @@ pub one : {g : Register} {p : Period} → Follows g p → (c : Made) → Meets p
     → Follows (step g (callOf (c .asked))) (c .reply .period) × Agrees g c × AtClosing g c
 one {g} f c m =
     let (f′, a) = agrees f (c .asked) (c .reply) (c .after) m in
-    (f′, a, closes g c a (f′ .good))
+    (f′, a, closes f c a (f′ .good))
 
 pub holds : {g : Register} {p : Period} → Follows g p → (cs : List Made) → MadeOn p cs → Holds g cs
 holds f [] m = tt

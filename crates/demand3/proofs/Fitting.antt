@@ -17,13 +17,12 @@ use Rattle.methodology.specs.declared.Refusal.the-variants.{Clear, Row, RowAt}
 use Rattle.methodology.specs.declared.Opening.{Opening}
 use Rattle.methodology.specs.Account.{noOpening, DayInput}
 use Rattle.methodology.specs.Day.{total, maxEul, scale, dailies}
-use Rattle.methodology.specs.Contribution.{charge, funded, unfunded, three}
+use Rattle.methodology.specs.Contribution.{funded, unfunded, three}
 use Rattle.methodology.specs.Refusals.{isOpen, badOpening, openingRefusal}
 use Rattle.methodology.specs.Register.{ifAccepted, accepted, answerBy}
 use Rattle.methodology.proofs.Passed.{passed, either}
-use Rattle.methodology.proofs.RowLimits.{RowFew, opening-few, day-few, closing-few}
+use Rattle.methodology.proofs.RowLimits.{at-most-9, RowFew, opening-few, day-few, closing-few}
 use Rattle.quotient.specs.Ranges.{greatestTotal}
-use Rattle.quotient.proofs.QuotientBounds.{raw-le}
 use Rattle.validation.specs.Slices.{inPlaces}
 use Rattle.validation.proofs.OpeningPasses.{opening-leaves}
 use Rattle.validation.proofs.DayPasses.{sized}
@@ -34,6 +33,7 @@ use Rattle.period.specs.declared.Outcome.the-variants as says
 use Rattle.period.specs.declared.Reply.{Reply}
 use Rattle.period.specs.Reading.{answerOf}
 use Rattle.period.specs.Calls.{freshPeriod, heldBy, inRange, statusOf, openingRow, openedPeriod, accountsBrought, dayRow, shareAt, sizedPeriod, closingRow, sumsHeld, chargeBy, closedPeriod}
+use Rattle.fund.proofs.RawCharge.{charge-le}
 use Rattle.fund.proofs.Dailies.{Few, dailies-long}
 use Rattle.period.proofs.InRange.{ranged}
 use Rattle.period.proofs.Sizing.{Admits, passes-all, total-few, written-few}
@@ -55,7 +55,7 @@ day-row-few p d room = day-few (statusOf p) (heldBy p) (p .accrued .last) d room
 
 closing-row-few : (p : Period) (room : ℕ) → RowFew (closingRow p room)
 unfolding closingRow
-closing-row-few p room = closing-few (statusOf p) (heldBy p) (p .accrued .days) room
+closing-row-few p room = closing-few (statusOf p) (heldBy p) room
 
 -- ---- lists
 
@@ -89,9 +89,7 @@ module _ {p : Period} {room : ℕ} (c : Closable p room) (full : length (p .accr
   sum-few = by-index (λ (s : ℕ). s ≤ p .accrued .days * scale) (sumsHeld p) 0 (λ i h. rw (getD-take {A = ℕ} (p .held .n) (p .accrued .sums) i 0 (omega (arith, sums-long))) (in-range c .sums i))
 
   charge-few : {s : ℕ} → s ∈ sumsHeld p → chargeBy p s ≤ 2 * greatestTotal
-  unfolding charge
-  charge-few {s} i =
-      omega (arith, raw-le scale (p .accrued .highest) s (p .accrued .days) (omega arith) (c .some) (sum-few s i), in-range c .bounded)
+  charge-few {s} i = omega (arith, charge-le (p .accrued .highest) s (p .accrued .days) (sum-few s i), in-range c .bounded)
 
   funds-fit : Fits64 (Σ (sumsHeld p) (λ s. funded (chargeBy p s)))
   unfolding funded
@@ -158,8 +156,8 @@ narrow-fresh = record { held = narrow-places noOpening (omega arith) (omega arit
 
 answer-fits : (x : Refusal) (figures : List ℕ) → RowFew x → (x ≡ Clear → Every Fits64 figures) → Every Fits64 (numbersIn (answerBy x figures))
 answer-fits Clear figures h f = f refl
-answer-fits (Row number) figures h f = (omega arith, tt)
-answer-fits (RowAt number index) figures (h, i) f = (omega arith, (omega arith, tt))
+answer-fits (Row number) figures h f = (omega (arith, at-most-9 number h), tt)
+answer-fits (RowAt number index) figures (h, i) f = (omega (arith, at-most-9 number h), (omega arith, tt))
 
 pub fits : {p : Period} → Narrow p → (a : Asked) (r : Reply) (after : List ℕ) → Meets p a r after → Fits (record { asked = a; reply = r; after = after })
 unfolding openingRow openingRefusal

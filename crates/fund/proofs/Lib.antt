@@ -1,4 +1,5 @@
 pub mod Dailies
 pub mod Contributions
+pub mod RawCharge
 mod Charges
 pub mod Cover

@@ -76,6 +76,14 @@ fn write_three(raw: u64, out: &mut [u64]) -> u64
     funded
 }
 
+// The raw charge for shares that sum to s over d days, where the highest Max EUL is m. Without days it is 0.
+fn raw_charge(m: u64, s: u64, d: u64) -> u64
+    requires { ⌜ Charge m s d ⌝ }
+    ensures { λ r. ⌜ r ≡ charge m s d ⌝ }
+{
+    if d == 0 { 0 } else { quotient::raw(m, s, d) }
+}
+
 // The three numbers of n members whose shares have these sums over d days, where the highest Max EUL is m. The total funded is returned.
 pub fn write_contributions(sums: [u64; 32], n: usize, m: u64, d: u64, out: &mut [u64]) -> u64
     requires { ⌜ (n ≤ 32) × (length (now out) ≡ 3 * n) ⌝ }
@@ -85,7 +93,7 @@ pub fn write_contributions(sums: [u64; 32], n: usize, m: u64, d: u64, out: &mut 
 {
     let mut total: u64 = 0;
     for i in 0..n {
-        let raw = quotient::raw(m, sums[i], d);
+        let raw = raw_charge(m, sums[i], d);
         total += write_three(raw, &mut out[3 * i..]);
     }
     total

@@ -14,7 +14,7 @@ use Rattle.methodology.specs.declared.Opening.{Opening}
 use Rattle.methodology.specs.Account.{DayInput, members, accounts, nobody, headingAt}
 use Rattle.methodology.specs.Member.{memberUnder, memberOwn}
 use Rattle.methodology.specs.Day.{total, maxEul, dailies}
-use Rattle.methodology.specs.Contribution.{KeptDay, exactCharge, allowance, shortfall}
+use Rattle.methodology.specs.Contribution.{KeptDay, charge, exactCharge, allowance, shortfall}
 use Rattle.methodology.specs.Register.{Register, start, opening, day, closing, step, buffer}
 use Rattle.methodology.proofs.Samples.{computed, H, R, A, U, Line, acct, minus, losing, houses, clients, dayOf, opening-of}
 
@@ -181,6 +181,10 @@ exact-cases =
     -- one scenario, under which the stresses are not 0: 11 · 6 / 10 of 6/8, and of 2/8
     ∷ exactCharge (groups (0 ∷ 0 ∷ [])) (stressed ∷ []) 1 is-fraction 99 over 20
     ∷ exactCharge (groups (0 ∷ 0 ∷ [])) (stressed ∷ []) 2 is-fraction 33 over 20
+    -- no day: the exact charge is 0 (document 02, Change 2), and so is a raw one, whatever M and the sum of shares would be
+    ∷ exact [] (groups (0 ∷ 0 ∷ [])) 1 is-fraction 0 over 1
+    ∷ exact [] (opening-of 3 2 (4 ∷ 4 ∷ 0 ∷ [])) 3 is-fraction 0 over 1
+    ∷ (charge 0 0 0 ∷ charge 400000000 1000000000000 0 ∷ charge 400000000 1000000000000 1 ∷ []) is (0 ∷ 0 ∷ 440000000 ∷ [])
     -- the allowance is 1 dollar where M is 0, 1 and 1.1 dollars where it is 10^12, and in the printed month 1.000429 dollars
     ∷ allowance 0 is-fraction 1 over 1
     ∷ allowance 1000000000000 is-fraction 21 over 10

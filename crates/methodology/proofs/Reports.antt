@@ -21,7 +21,7 @@ use Rattle.methodology.specs.Register.{Call, Register, start, refusal, s
 use Rattle.methodology.specs.Text.{LF, bytes, same, onto, split, fields, isDigit, valueFrom, numberOf, also, everyField, numbersAfter, badBytes, AccountLine, refusedLine, dayLines, fundLines, Expected, period, member, day, account, afterEnd, Read, bad, readPeriod, opened, readMember, readDay, sized, withAccount, readAccount, readLine, closed, atEnd, followedBy, reportFrom, reportOf}
 use Rattle.methodology.specs.Lines.{indexOf, before}
 use Rattle.methodology.proofs.Passed.{inside, by-test}
-use Rattle.methodology.proofs.RowLimits.{RowFew, refusal-few}
+use Rattle.methodology.proofs.RowLimits.{occurs, RowFew, refusal-few}
 use Rattle.methodology.proofs.Splits.{split-first}
 use Rattle.methodology.proofs.Cut.{before-same, too-long, cut}
 
@@ -45,13 +45,13 @@ pub data Rest (last : ℕ) : Register → List ℕ → Type 0 where
   a-day : {g : Register} {rest : List ℕ} (d : DayInput) → refusal g (dayCall g d) ≡ Clear → Rest last (step g (dayCall g d)) rest
       → Rest last g (sizedLines (step g (dayCall g d)) d (dayCall g d) ++ rest)
   a-fund : {g : Register} → refusal g (closingCall g) ≡ Clear → Rest last g (closedLines (step g (closingCall g)) (closingCall g))
-  a-refusal : {g : Register} (number line : ℕ) → number ≤ 9 → line ≤ last → Rest last g (refusedLine number line)
+  a-refusal : {g : Register} (number line : ℕ) → occurs number ≡ true → line ≤ last → Rest last g (refusedLine number line)
 
 -- a report of n members: it is refused before a period is open, or goes on from there
 pub data Report (n last : ℕ) : List ℕ → Type 0 where
   begun : {s : List ℕ} (o : Opening) → o .n ≡ n → o .n ≤ 32 → refusal start (Call.opening o) ≡ Clear
       → Rest last (step start (Call.opening o)) s → Report n last s
-  not-begun : (number line : ℕ) → number ≤ 9 → line ≤ last → Report n last (refusedLine number line)
+  not-begun : (number line : ℕ) → occurs number ≡ true → line ≤ last → Report n last (refusedLine number line)
 
 -- a line's first number, where it is read
 abbrev FirstIs : (n : ℕ) → Option (List ℕ) → Type 0
@@ -78,7 +78,7 @@ module _ (n last : ℕ) where
   abbrev Goes : (Expected → List ℕ) → Type 0
   Goes rest = (e : Expected) → Ready e → From e (rest e)
 
-  refused-from : (e : Expected) (number line : ℕ) → number ≤ 9 → line ≤ last → From e (refusedLine number line)
+  refused-from : (e : Expected) (number line : ℕ) → occurs number ≡ true → line ≤ last → From e (refusedLine number line)
   refused-from period number line h k = not-begun number line h k
   refused-from (member o) number line h k = not-begun number line h k
   refused-from (day g) number line h k = a-refusal number line h k
@@ -94,7 +94,7 @@ module _ (n last : ℕ) where
 
     line-9 : (e : Expected) → Prints e (bad i)
     unfolding followedBy
-    line-9 e = refused-from e 9 i (omega arith) (omega arith)
+    line-9 e = refused-from e 9 i refl (omega arith)
 
     by-opened : (x : Refusal) (o : Opening) → refusal start (Call.opening o) ≡ x → RowFew x → Ready (member o) → Report n last (followedBy (opened x o) rest)
     unfolding opened followedBy
@@ -117,7 +117,7 @@ module _ (n last : ℕ) where
     unfolding readDay followedBy
     by-day g none = line-9 (day g)
     by-day g (some ns) =
-        by-test (Prints (day g)) (countOutside (getD ns 1 0)) _ _ (λ e. a-refusal 4 i (omega arith) (omega arith)) (λ e. goes (account g _ i _ 0) near)
+        by-test (Prints (day g)) (countOutside (getD ns 1 0)) _ _ (λ e. a-refusal 4 i refl (omega arith)) (λ e. goes (account g _ i _ 0) near)
 
     by-sized : (x : Refusal) (g : Register) (d : DayInput) (at : ℕ) → refusal g (dayCall g d) ≡ x → RowFew x → at + 257 ≤ last → Prints (day g) (sized x g d at)
     unfolding sized followedBy
@@ -148,7 +148,7 @@ module _ (n last : ℕ) where
     unfolding readPeriod followedBy
     by-period none is = line-9 period
     by-period (some ns) is =
-        by-test (Prints period) (nOutside (getD ns 0 0) || kOutside (getD ns 1 0)) _ _ (λ e. not-begun 1 i (omega arith) (omega arith))
+        by-test (Prints period) (nOutside (getD ns 0 0) || kOutside (getD ns 1 0)) _ _ (λ e. not-begun 1 i refl (omega arith))
         (λ e. goes (member _) (is, inside _ _ (getD ns 0 0) (neither (nOutside (getD ns 0 0)) _ e .0) .1))
 
   -- ---- the end
@@ -162,11 +162,11 @@ module _ (n last : ℕ) where
   by-end : (e : Expected) (i : ℕ) (l : List ℕ) → i ≤ last → Ready e → From e (atEnd e i l)
   unfolding atEnd
   by-end period i l h r = absurd r
-  by-end (member o) i l h r = not-begun 9 i (omega arith) h
-  by-end (day g) i l h r = a-refusal 9 i (omega arith) h
-  by-end (account g d at count used) i l h r = a-refusal 9 i (omega arith) h
+  by-end (member o) i l h r = not-begun 9 i refl h
+  by-end (day g) i l h r = a-refusal 9 i refl h
+  by-end (account g d at count used) i l h r = a-refusal 9 i refl h
   by-end (afterEnd g at) i l h r =
-      by-test (Rest last g) (same l []) _ _ (λ e. by-closed _ g at refl (refusal-few g (closingCall g)) r) (λ e. a-refusal 9 i (omega arith) h)
+      by-test (Rest last g) (same l []) _ _ (λ e. by-closed _ g at refl (refusal-few g (closingCall g)) r) (λ e. a-refusal 9 i refl h)
 
   -- ---- the lines from one on
 
@@ -223,7 +223,7 @@ membersTold text = toldBy (getD (split LF text) 0 [])
 first-line : (l : List ℕ) (ls : List (List ℕ)) → length ls + 258 ≤ lastLine
     → Report (toldBy l) lastLine (reportFrom 1 (l ∷ ls) period)
 unfolding reportFrom atEnd readLine
-first-line l [] near = not-begun 9 1 (omega arith) (omega arith)
+first-line l [] near = not-begun 9 1 refl (omega arith)
 first-line l (m ∷ ls) near =
     let n = toldBy l in
     let goes = from-line n lastLine 2 m ls (omega arith) in
@@ -264,4 +264,4 @@ reports text = by (ltb enough (length text)) (ltb (indexOf LF text) enough) refl
         rw (split-first LF (take enough text), split-first LF text) same-line in
         subst (λ (l : List ℕ). Report (toldBy l) lastLine (reportOf text)) first whole
     by true false p q =
-        rw (too-long 1 text period (omega (arith, ltb-false (indexOf LF text) enough q))) (not-begun 9 1 (omega arith) (omega arith))
+        rw (too-long 1 text period (omega (arith, ltb-false (indexOf LF text) enough q))) (not-begun 9 1 refl (omega arith))

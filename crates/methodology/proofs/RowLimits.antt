@@ -1,14 +1,15 @@
--- What a refusal table can say: a row's number is at most 9, and an index at most 256, since rows 5 and 6 come after row 4.
+-- What a refusal table can say: a row's number is one that occurs, and an index is at most 256, since rows 5 and 6 come after row 4.
 use mathlib.Core.Path.{_≡_, refl}
-use mathlib.Core.Bool.{Bool, true, false, not, _||_, cond}
+use mathlib.Core.Bool.{Bool, true, false, not, _&&_, _||_, cond}
 use mathlib.Core.List.{List, [], _∷_}
 use Prim.Native.Nat.{ℕ, suc, _+_, _*_, _≤_}
 use native.Mathlib.Omega.{arith}
-use lib.Dec.{eqb, ltb}
+use lib.Dec.{eqb, ltb, leb}
 use lib.ListN.{length}
+use borrow.Author.Tests.{leb-true}
 use Rattle.numbers.specs.Lists.{firstWhere}
 use Rattle.numbers.proofs.Lists.{first-le, table-length}
-use Rattle.numbers.proofs.Tests.{neither}
+use Rattle.numbers.proofs.Tests.{both, neither}
 use Rattle.methodology.specs.declared.Heading.{Heading}
 use Rattle.methodology.specs.declared.Status.{Status}
 use Rattle.methodology.specs.declared.Refusal.{Refusal}
@@ -20,10 +21,17 @@ use Rattle.methodology.specs.Refusals.{row_when_else_, row_at_when_else_
 use Rattle.methodology.specs.Register.{Call, Register, lastNumber, refusal}
 use Rattle.methodology.proofs.Passed.{inside}
 
+-- the numbers that occur: those of document 01's table but for 8, which document 02's Change 2 takes away
+abbrev pub occurs : (number : ℕ) → Bool
+occurs number = leb number 9 && not (eqb number 8)
+
+pub at-most-9 : (number : ℕ) → occurs number ≡ true → number ≤ 9
+at-most-9 number h = leb-true number 9 (both (leb number 9) _ h .0)
+
 abbrev pub RowFew : Refusal → Type 0
 RowFew Clear = Unit {0}
-RowFew (Row number) = number ≤ 9
-RowFew (RowAt number index) = (number ≤ 9) × (index ≤ 256)
+RowFew (Row number) = occurs number ≡ true
+RowFew (RowAt number index) = (occurs number ≡ true) × (index ≤ 256)
 
 -- ---- an index
 
@@ -43,12 +51,12 @@ accounts-long k d = table-length _ 0 (length (d .headings))
 
 -- ---- a row
 
-when-few : (number : ℕ) (b : Bool) (rest : Refusal) → number ≤ 9 → (b ≡ false → RowFew rest) → RowFew (row number when b else rest)
+when-few : (number : ℕ) (b : Bool) (rest : Refusal) → occurs number ≡ true → (b ≡ false → RowFew rest) → RowFew (row number when b else rest)
 unfolding row_when_else_
 when-few number true rest h f = h
 when-few number false rest h f = f refl
 
-at-few : (number index : ℕ) (b : Bool) (rest : Refusal) → number ≤ 9 → index ≤ 256 → RowFew rest → RowFew (row number at index when b else rest)
+at-few : (number index : ℕ) (b : Bool) (rest : Refusal) → occurs number ≡ true → index ≤ 256 → RowFew rest → RowFew (row number at index when b else rest)
 unfolding row_at_when_else_
 at-few number index true rest h i f = (h, i)
 at-few number index false rest h i f = f
@@ -63,7 +71,7 @@ rows-few (RowAt number index) rest h f = h
 
 pub opening-few : (s : Status) (o : Opening) → RowFew (openingRefusal s o)
 unfolding openingRefusal
-opening-few s o = when-few 2 (isOpen s) _ (omega arith) (λ e. when-few 1 (badOpening o) Clear (omega arith) (λ e. tt))
+opening-few s o = when-few 2 (isOpen s) _ refl (λ e. when-few 1 (badOpening o) Clear refl (λ e. tt))
 
 count-few : (o : Opening) (d : DayInput) → badInput o d ≡ false → length (d .headings) ≤ 256
 count-few o d e =
@@ -79,29 +87,28 @@ account-rows-few o d few =
     let count = length (d .headings) in
     let bad5 = firstBadHeading (o .n) nobody (d .headings) in
     let bad6 = firstWhere badAmount (accounts (o .k) d) in
-    at-few 5 bad5 (ltb bad5 count || lastMissing (o .n) (d .headings)) _ (omega arith) (omega (arith, bad-heading-le (o .n) nobody (d .headings)))
-    (at-few 6 bad6 (ltb bad6 count) Clear (omega arith) (omega (arith, first-le badAmount (accounts (o .k) d), accounts-long (o .k) d)) tt)
+    at-few 5 bad5 (ltb bad5 count || lastMissing (o .n) (d .headings)) _ refl (omega (arith, bad-heading-le (o .n) nobody (d .headings)))
+    (at-few 6 bad6 (ltb bad6 count) Clear refl (omega (arith, first-le badAmount (accounts (o .k) d), accounts-long (o .k) d)) tt)
 
 pub day-few : (s : Status) (o : Opening) (last : ℕ) (d : DayInput) (room : ℕ) → RowFew (dayRefusal s o last d room)
 unfolding dayRefusal beforeFigures dayRows
 day-few s o last d room =
     rows-few (beforeFigures s o last d room) _
-    (when-few 2 (not (isOpen s)) _ (omega arith)
-    (λ e. when-few 4 (badOutput o room) _ (omega arith)
-    (λ e. when-few 4 (badInput o d) _ (omega arith)
-    (λ e. when-few 3 (badDayNumber last (d .terms .number)) _ (omega arith)
+    (when-few 2 (not (isOpen s)) _ refl
+    (λ e. when-few 4 (badOutput o room) _ refl
+    (λ e. when-few 4 (badInput o d) _ refl
+    (λ e. when-few 3 (badDayNumber last (d .terms .number)) _ refl
     (λ f. account-rows-few o d (count-few o d e))))))
-    (when-few 7 (eqb (total o (accounts (o .k) d)) 0) Clear (omega arith) (λ e. tt))
+    (when-few 7 (eqb (total o (accounts (o .k) d)) 0) Clear refl (λ e. tt))
 
-pub closing-few : (s : Status) (o : Opening) (D room : ℕ) → RowFew (closingRefusal s o D room)
+pub closing-few : (s : Status) (o : Opening) (room : ℕ) → RowFew (closingRefusal s o room)
 unfolding closingRefusal
-closing-few s o D room =
-    when-few 2 (not (isOpen s)) _ (omega arith)
-    (λ e. when-few 8 (eqb D 0) _ (omega arith)
-    (λ e. when-few 4 (not (eqb room (3 * o .n))) Clear (omega arith) (λ e. tt)))
+closing-few s o room =
+    when-few 2 (not (isOpen s)) _ refl
+    (λ e. when-few 4 (not (eqb room (3 * o .n))) Clear refl (λ e. tt))
 
 pub refusal-few : (g : Register) (c : Call) → RowFew (refusal g c)
 unfolding refusal
 refusal-few g (Call.opening o) = opening-few (g .status) o
 refusal-few g (Call.day d room) = day-few (g .status) (g .held) (lastNumber (g .days)) d room
-refusal-few g (Call.closing room) = closing-few (g .status) (g .held) (length (g .days)) room
+refusal-few g (Call.closing room) = closing-few (g .status) (g .held) room

@@ -32,7 +32,7 @@ pieces-short w f h [] = omega arith
 pieces-short w f h (x ∷ xs) = omega (arith, length-append (f x) (flatMap f xs), h x, pieces-short w f h xs)
 
 -- a number has a tab and at most 20 digits
-printed-short : (word numbers : List ℕ) → length (printed word numbers) ≤ length word + 21 * length numbers + 1
+pub printed-short : (word numbers : List ℕ) → length (printed word numbers) ≤ length word + 21 * length numbers + 1
 unfolding printed
 printed-short word numbers =
     let fields = flatMap (λ x. tab ∷ decimal x) numbers in

@@ -1,7 +1,7 @@
--- Calls worked by the register: document 01's printed month; M on each of three days; a period whose calls meet every condition of the
--- refusal table from both sides, and every pair of its order of precedence. One table, one theorem: each answer, and each number left in a
--- buffer, is the one due. By computation. The figures were worked out from document 01 by a recalculation of its own. The largest periods
--- are in WorkedLimits.antt.
+-- Calls worked by the register: document 01's printed month; M on each of three days; months that have not begun; a period whose calls meet
+-- every condition of the refusal table from both sides, and every pair of its order of precedence. One table, one theorem: each answer, and
+-- each number left in a buffer, is the one due. By computation. The figures were worked out from document 01 by a recalculation of its own.
+-- The largest periods are in WorkedLimits.antt.
 use mathlib.Core.Path.{_≡_, refl}
 use mathlib.Core.List.{List, [], _∷_, _++_, map}
 use Prim.Native.Nat.{ℕ, suc, _*_}
@@ -61,6 +61,49 @@ three-days first second third =
     ∷ closing 6
     gets accepted (3 ∷ 400000000 ∷ 440000001 ∷ [])
     writing (237111112 ∷ 237111112 ∷ 474222224 ∷ 202888889 ∷ 202888889 ∷ 405777778 ∷ [])
+    ∷ []
+
+-- ---- months that have not begun (document 02, Change 2)
+
+-- of one member and of two
+abbrev none-of-one : Exchange
+none-of-one = closing 3 gets accepted (0 ∷ 0 ∷ 50000000 ∷ []) writing (0 ∷ 50000000 ∷ 100000000 ∷ [])
+
+abbrev none-of-two : Exchange
+none-of-two = closing 6 gets accepted (0 ∷ 0 ∷ 100000000 ∷ []) writing (0 ∷ 50000000 ∷ 100000000 ∷ 0 ∷ 50000000 ∷ 100000000 ∷ [])
+
+-- the first period, which its closing closes as any does; then one after it, and one all of whose days are refused
+abbrev not-begun : List Exchange
+not-begun =
+    brings 2 1 (0 ∷ 0 ∷ []) gets accepted []
+    ∷ none-of-two
+    ∷ losses 1 (400000000 ∷ 200000000 ∷ []) gets refused 2
+    ∷ closing 6 gets refused 2
+    ∷ brings 1 16 (32 ∷ []) gets accepted []
+    ∷ none-of-one
+    ∷ brings 1 1 (0 ∷ []) gets accepted []
+    ∷ losses 0 (5 ∷ []) gets refused 3
+    ∷ losses 1 (0 ∷ []) gets refused 7
+    ∷ none-of-one
+    ∷ []
+
+-- After a month with a day nothing of it is left: a period closed at once has M 0 and no charge. A day shows in D: a month with one has D 1.
+abbrev not-begun-again : List Exchange
+not-begun-again =
+    brings 2 1 (0 ∷ 0 ∷ []) gets accepted []
+    ∷ worst 7
+    ∷ closing 6
+    gets accepted (1 ∷ 400000000 ∷ 440000001 ∷ [])
+    writing (293333334 ∷ 293333334 ∷ 586666668 ∷ 146666667 ∷ 146666667 ∷ 293333334 ∷ [])
+    ∷ brings 2 1 (0 ∷ 0 ∷ []) gets accepted []
+    ∷ none-of-two
+    ∷ brings 1 1 (0 ∷ []) gets accepted []
+    ∷ none-of-one
+    ∷ brings 2 1 (0 ∷ 0 ∷ []) gets accepted []
+    ∷ least 1
+    ∷ closing 6
+    gets accepted (1 ∷ 70000000 ∷ 103900000 ∷ [])
+    writing (53900000 ∷ 53900000 ∷ 107800000 ∷ 23100000 ∷ 50000000 ∷ 100000000 ∷ [])
     ∷ []
 
 -- five days; M is the first one's, or the last one's where they come the other way round
@@ -245,9 +288,10 @@ while-open =
     ∷ brings 3 17 (4 ∷ 4 ∷ 0 ∷ []) gets refused 2
     ∷ brings 3 2 (4 ∷ 33 ∷ 0 ∷ []) gets refused 2
     ∷ brings 3 2 (4 ∷ 4 ∷ []) gets refused 2
-    -- closing: 8, and 8 before 4
-    ∷ closing 9 gets refused 8
-    ∷ closing 8 gets refused 8
+    -- row 4 of a closing with no accepted day; `not-begun` has the good one
+    ∷ closing 0 gets refused 4
+    ∷ closing 8 gets refused 4
+    ∷ closing 10 gets refused 4
     -- row 4: the number of accounts, each length, the output, one too few and one too many; and 4 before 3
     ∷ on 6 [] gets refused 4
     ∷ on 6 (replicate 257 (house 1)) gets refused 4
@@ -394,7 +438,10 @@ while-closed =
     ∷ brings 3 2 (4 ∷ 4 ∷ []) gets refused 1
     -- an opening drops all days, and holds what it brings: the same n and k with other groups, more members, fewer
     ∷ brings 3 2 (0 ∷ 7 ∷ 7 ∷ []) gets accepted []
-    ∷ closing 9 gets refused 8
+    ∷ closing 9
+    gets accepted (0 ∷ 0 ∷ 150000000 ∷ [])
+    writing (0 ∷ 50000000 ∷ 100000000 ∷ 0 ∷ 50000000 ∷ 100000000 ∷ 0 ∷ 50000000 ∷ 100000000 ∷ [])
+    ∷ brings 3 2 (0 ∷ 7 ∷ 7 ∷ []) gets accepted []
     ∷ on 1
     (acct 1 0 H (pos 5) 0 0 (pos 0 ∷ pos 0 ∷ []) ∷ acct 2 0 H (pos 4) 0 0 (pos 0 ∷ pos 4 ∷ []) ∷ acct 3 0 H (pos 3) 0 0 (pos 0 ∷ pos 3 ∷ []) ∷ [])
     gets accepted (12 ∷ 7 ∷ [])
@@ -418,7 +465,6 @@ while-closed =
     ∷ 2 ∷ 50000000 ∷ 100000000
     ∷ [])
     ∷ brings 1 1 (32 ∷ []) gets accepted []
-    ∷ closing 3 gets refused 8
     ∷ day (dayOf 1 (losing 1 0 H (pos 3) ∷ [])) 5 gets accepted (3 ∷ 3 ∷ []) writing (3 ∷ 1000000000000 ∷ 300 ∷ 330 ∷ 660 ∷ [])
     ∷ closing 3 gets accepted (1 ∷ 3 ∷ 50000000 ∷ []) writing (4 ∷ 50000000 ∷ 100000000 ∷ [])
     ∷ []
@@ -509,6 +555,8 @@ lists =
     ∷ three-days worst middling least
     ∷ three-days middling worst least
     ∷ three-days least middling worst
+    ∷ not-begun
+    ∷ not-begun-again
     ∷ (while-fresh ++ (while-open ++ while-closed))
     ∷ five-days-in five-days
     ∷ five-days-in (backwards five-days)

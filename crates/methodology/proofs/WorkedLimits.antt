@@ -6,7 +6,7 @@ use Prim.Native.Nat.{_-_}
 use lib.IntN.{pos}
 use lib.ListN.{replicate}
 use Rattle.numbers.specs.Lists.{range}
-use Rattle.methodology.specs.Register.{Call, day, closing, start, accepted, refusedAt}
+use Rattle.methodology.specs.Register.{Call, day, closing, start, accepted, refused, refusedAt}
 use Rattle.methodology.proofs.Samples.{computed, H, U, Line, acct, losing, dayOf, brings, Exchange, _gets_, _gets_writing_, played}
 
 -- Member 32, whose Affiliate is member 31, on day 31; the others lose 1.
@@ -19,6 +19,14 @@ member-32 =
     ∷ closing 96
     gets accepted (1 ∷ 10 ∷ 1600000000 ∷ [])
     writing (flatMap (λ m. 1 ∷ 50000000 ∷ 100000000 ∷ []) (range 1 31) ++ (3 ∷ 50000000 ∷ 100000000 ∷ []))
+    ∷ []
+
+-- a month of 32 members that has not begun
+abbrev not-begun : List Exchange
+not-begun =
+    brings 32 16 (replicate 32 32) gets accepted []
+    ∷ closing 95 gets refused 4
+    ∷ closing 96 gets accepted (0 ∷ 0 ∷ 1600000000 ∷ []) writing (flatMap (λ m. 0 ∷ 50000000 ∷ 100000000 ∷ []) (range 1 32))
     ∷ []
 
 -- two Affiliates in group 32 that lose 3 and 4 under one scenario of 16 alone: Max EUL is their sum
@@ -73,7 +81,7 @@ accounts-256 =
     ∷ []
 
 pub limit-lists : List (List Exchange)
-limit-lists = member-32 ∷ under-one under-16 ∷ under-one under-1 ∷ one-by-one ∷ stress-outside ∷ accounts-256 ∷ []
+limit-lists = member-32 ∷ not-begun ∷ under-one under-16 ∷ under-one under-1 ∷ one-by-one ∷ stress-outside ∷ accounts-256 ∷ []
 
 pub worked-limits : map (played start) limit-lists ≡ limit-lists
 unfolding limit-lists played computed

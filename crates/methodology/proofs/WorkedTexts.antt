@@ -62,10 +62,10 @@ texts =
     ∷ ("period\t2\t1\nmember\t1\t0\nmember\t2\t0\nday\t3\t2\nacct\t1\t0\tH\t390000000\t0\t0\t0\nacct\t2\t0\tH\t10000000\t0\t0\t0\nend\nx" gives "day\t3\t400000000\t390000000\ndaily\t1\t390000000\t975000000000\t38025000000\t41827500000\t83655000000\ndaily\t2\t10000000\t25000000000\t975000000\t1072500000\t2145000000\ntotal\t400000000\t1000000000000\t39000000000\t42900000000\t85800000000\nrefused\t9\t8\n")
     -- second end
     ∷ ("period\t2\t1\nmember\t1\t0\nmember\t2\t0\nday\t3\t2\nacct\t1\t0\tH\t390000000\t0\t0\t0\nacct\t2\t0\tH\t10000000\t0\t0\t0\nend\nend\n" gives "day\t3\t400000000\t390000000\ndaily\t1\t390000000\t975000000000\t38025000000\t41827500000\t83655000000\ndaily\t2\t10000000\t25000000000\t975000000\t1072500000\t2145000000\ntotal\t400000000\t1000000000000\t39000000000\t42900000000\t85800000000\nrefused\t9\t8\n")
-    -- 9 after end before 8
+    -- lf after end, and no day
     ∷ ("period\t1\t1\nmember\t1\t0\nend\n\n" gives "refused\t9\t4\n")
-    -- 8 at the end line
-    ∷ ("period\t1\t1\nmember\t1\t0\nend\n" gives "refused\t8\t3\n")
+    -- no day
+    ∷ ("period\t1\t1\nmember\t1\t0\nend\n" gives "fund\t0\t0\t50000000\ncontribution\t1\t0\t50000000\t100000000\n")
     -- second period
     ∷ ("period\t2\t1\nmember\t1\t0\nmember\t2\t0\nday\t3\t2\nacct\t1\t0\tH\t390000000\t0\t0\t0\nacct\t2\t0\tH\t10000000\t0\t0\t0\nperiod\t2\t1\n" gives "day\t3\t400000000\t390000000\ndaily\t1\t390000000\t975000000000\t38025000000\t41827500000\t83655000000\ndaily\t2\t10000000\t25000000000\t975000000\t1072500000\t2145000000\ntotal\t400000000\t1000000000000\t39000000000\t42900000000\t85800000000\nrefused\t9\t7\n")
     -- empty line
@@ -458,6 +458,10 @@ texts =
     ∷ ("period\t1\t2\nmember\t1\t0\nday\t1\t2\nacct\t1\t0\tH\t0\t55\t0\t-50\t0\nacct\t1\t1\tU\t0\t5\t0\t0\t-50\nday\t2\t2\nacct\t1\t0\tH\t0\t55\t0\t-50\t0\nacct\t1\t1\tU\t0\t5\t0\t0\t-10\nday\t3\t2\nacct\t1\t0\tH\t0\t55\t0\t-50\t0\nacct\t1\t1\tU\t0\t5\t0\t0\t-50\nend\n" gives "day\t1\t63\t13\ndaily\t1\t63\t1000000000000\t1300\t1430\t2860\ntotal\t63\t1000000000000\t1300\t1430\t2860\nday\t2\t3\t0\ndaily\t1\t3\t1000000000000\t0\t0\t0\ntotal\t3\t1000000000000\t0\t0\t0\nday\t3\t63\t13\ndaily\t1\t63\t1000000000000\t1300\t1430\t2860\ntotal\t63\t1000000000000\t1300\t1430\t2860\nfund\t3\t13\t50000000\ncontribution\t1\t15\t50000000\t100000000\n")
     -- four members of one group that lose a dollar each on six days
     ∷ ("period\t4\t1\nmember\t1\t1\nmember\t2\t1\nmember\t3\t1\nmember\t4\t1\nday\t1\t4\nacct\t1\t0\tH\t0\t0\t0\t-1\nacct\t2\t0\tH\t0\t0\t0\t-1\nacct\t3\t0\tH\t0\t0\t0\t-1\nacct\t4\t0\tH\t0\t0\t0\t-1\nday\t2\t4\nacct\t1\t0\tH\t0\t0\t0\t-1\nacct\t2\t0\tH\t0\t0\t0\t-1\nacct\t3\t0\tH\t0\t0\t0\t-1\nacct\t4\t0\tH\t0\t0\t0\t-1\nday\t3\t4\nacct\t1\t0\tH\t0\t0\t0\t-1\nacct\t2\t0\tH\t0\t0\t0\t-1\nacct\t3\t0\tH\t0\t0\t0\t-1\nacct\t4\t0\tH\t0\t0\t0\t-1\nday\t4\t4\nacct\t1\t0\tH\t0\t0\t0\t-1\nacct\t2\t0\tH\t0\t0\t0\t-1\nacct\t3\t0\tH\t0\t0\t0\t-1\nacct\t4\t0\tH\t0\t0\t0\t-1\nday\t5\t4\nacct\t1\t0\tH\t0\t0\t0\t-1\nacct\t2\t0\tH\t0\t0\t0\t-1\nacct\t3\t0\tH\t0\t0\t0\t-1\nacct\t4\t0\tH\t0\t0\t0\t-1\nday\t6\t4\nacct\t1\t0\tH\t0\t0\t0\t-1\nacct\t2\t0\tH\t0\t0\t0\t-1\nacct\t3\t0\tH\t0\t0\t0\t-1\nacct\t4\t0\tH\t0\t0\t0\t-1\nend\n" gives "day\t1\t4\t4\ndaily\t1\t1\t250000000000\t100\t110\t220\ndaily\t2\t1\t250000000000\t100\t110\t220\ndaily\t3\t1\t250000000000\t100\t110\t220\ndaily\t4\t1\t250000000000\t100\t110\t220\ntotal\t4\t1000000000000\t400\t440\t880\nday\t2\t4\t4\ndaily\t1\t1\t250000000000\t100\t110\t220\ndaily\t2\t1\t250000000000\t100\t110\t220\ndaily\t3\t1\t250000000000\t100\t110\t220\ndaily\t4\t1\t250000000000\t100\t110\t220\ntotal\t4\t1000000000000\t400\t440\t880\nday\t3\t4\t4\ndaily\t1\t1\t250000000000\t100\t110\t220\ndaily\t2\t1\t250000000000\t100\t110\t220\ndaily\t3\t1\t250000000000\t100\t110\t220\ndaily\t4\t1\t250000000000\t100\t110\t220\ntotal\t4\t1000000000000\t400\t440\t880\nday\t4\t4\t4\ndaily\t1\t1\t250000000000\t100\t110\t220\ndaily\t2\t1\t250000000000\t100\t110\t220\ndaily\t3\t1\t250000000000\t100\t110\t220\ndaily\t4\t1\t250000000000\t100\t110\t220\ntotal\t4\t1000000000000\t400\t440\t880\nday\t5\t4\t4\ndaily\t1\t1\t250000000000\t100\t110\t220\ndaily\t2\t1\t250000000000\t100\t110\t220\ndaily\t3\t1\t250000000000\t100\t110\t220\ndaily\t4\t1\t250000000000\t100\t110\t220\ntotal\t4\t1000000000000\t400\t440\t880\nday\t6\t4\t4\ndaily\t1\t1\t250000000000\t100\t110\t220\ndaily\t2\t1\t250000000000\t100\t110\t220\ndaily\t3\t1\t250000000000\t100\t110\t220\ndaily\t4\t1\t250000000000\t100\t110\t220\ntotal\t4\t1000000000000\t400\t440\t880\nfund\t6\t4\t200000000\ncontribution\t1\t2\t50000000\t100000000\ncontribution\t2\t2\t50000000\t100000000\ncontribution\t3\t2\t50000000\t100000000\ncontribution\t4\t2\t50000000\t100000000\n")
+    -- no day, four members, two of them in one group
+    ∷ ("period\t4\t3\nmember\t1\t32\nmember\t2\t1\nmember\t3\t32\nmember\t4\t0\nend\n" gives "fund\t0\t0\t200000000\ncontribution\t1\t0\t50000000\t100000000\ncontribution\t2\t0\t50000000\t100000000\ncontribution\t3\t0\t50000000\t100000000\ncontribution\t4\t0\t50000000\t100000000\n")
+    -- no day, n and k at their limits, all members in group 32
+    ∷ ("period\t32\t16\nmember\t1\t32\nmember\t2\t32\nmember\t3\t32\nmember\t4\t32\nmember\t5\t32\nmember\t6\t32\nmember\t7\t32\nmember\t8\t32\nmember\t9\t32\nmember\t10\t32\nmember\t11\t32\nmember\t12\t32\nmember\t13\t32\nmember\t14\t32\nmember\t15\t32\nmember\t16\t32\nmember\t17\t32\nmember\t18\t32\nmember\t19\t32\nmember\t20\t32\nmember\t21\t32\nmember\t22\t32\nmember\t23\t32\nmember\t24\t32\nmember\t25\t32\nmember\t26\t32\nmember\t27\t32\nmember\t28\t32\nmember\t29\t32\nmember\t30\t32\nmember\t31\t32\nmember\t32\t32\nend\n" gives "fund\t0\t0\t1600000000\ncontribution\t1\t0\t50000000\t100000000\ncontribution\t2\t0\t50000000\t100000000\ncontribution\t3\t0\t50000000\t100000000\ncontribution\t4\t0\t50000000\t100000000\ncontribution\t5\t0\t50000000\t100000000\ncontribution\t6\t0\t50000000\t100000000\ncontribution\t7\t0\t50000000\t100000000\ncontribution\t8\t0\t50000000\t100000000\ncontribution\t9\t0\t50000000\t100000000\ncontribution\t10\t0\t50000000\t100000000\ncontribution\t11\t0\t50000000\t100000000\ncontribution\t12\t0\t50000000\t100000000\ncontribution\t13\t0\t50000000\t100000000\ncontribution\t14\t0\t50000000\t100000000\ncontribution\t15\t0\t50000000\t100000000\ncontribution\t16\t0\t50000000\t100000000\ncontribution\t17\t0\t50000000\t100000000\ncontribution\t18\t0\t50000000\t100000000\ncontribution\t19\t0\t50000000\t100000000\ncontribution\t20\t0\t50000000\t100000000\ncontribution\t21\t0\t50000000\t100000000\ncontribution\t22\t0\t50000000\t100000000\ncontribution\t23\t0\t50000000\t100000000\ncontribution\t24\t0\t50000000\t100000000\ncontribution\t25\t0\t50000000\t100000000\ncontribution\t26\t0\t50000000\t100000000\ncontribution\t27\t0\t50000000\t100000000\ncontribution\t28\t0\t50000000\t100000000\ncontribution\t29\t0\t50000000\t100000000\ncontribution\t30\t0\t50000000\t100000000\ncontribution\t31\t0\t50000000\t100000000\ncontribution\t32\t0\t50000000\t100000000\n")
     ∷ []
 
 -- Up to here it is written.

@@ -1,6 +1,10 @@
--- Document 01, "From days to the contribution": from the days of a period to each member's charge; 001, 6.1.1(i) and (ii), 6.1.2.
+-- Document 01, "From days to the contribution": from the days of a period to each member's charge; 001, 6.1.1(i) and (ii), 6.1.2. By
+-- document 02's Change 2 a period may have none: "A closing with no accepted day now gives M 0, D 0, raw 0 and funded 50,000,000 for every
+-- member."
+use mathlib.Core.Bool.{cond}
 use mathlib.Core.List.{List, [], _∷_, flatMap}
 use Prim.Native.Nat.{ℕ, _-_, _*_, max}
+use lib.Dec.{eqb}
 use lib.ListN.{length}
 use Rattle.numbers.specs.Sums.{Σ, greatest}
 use Rattle.numbers.specs.Fractions.{Fraction, _over_, whole, _⊕_, _⊗_, Σᶠ}
@@ -15,7 +19,8 @@ pub record KeptDay : Type 0 where
   pub number : ℕ
   pub accounts : List Account
 
--- M. "M is the highest Max EUL among the days accepted since the last accepted opening, D their number": D is the length of the list.
+-- M. "M is the highest Max EUL among the days accepted since the last accepted opening, D their number": D is the length of the list. With
+-- no day both are 0; the greatest of none is.
 unfoldable pub highest : Opening → List KeptDay → ℕ
 highest o days = greatest days (λ d. maxEul o (d .accounts))
 
@@ -23,9 +28,10 @@ highest o days = greatest days (λ d. maxEul o (d .accounts))
 unfoldable pub sumOfShares : Opening → List KeptDay → (m : ℕ) → ℕ
 sumOfShares o days m = Σ days (λ d. share (loss (o .k) (d .accounts) m) (total o (d .accounts)))
 
--- "A raw charge is 11·M·(sum of the member's shares) / (10·D·10^12), rounded up": from M, the sum S and D, and of member m.
+-- "A raw charge is 11·M·(sum of the member's shares) / (10·D·10^12), rounded up": from M, the sum S and D, and of member m. Where D is 0 it
+-- is 0 (Change 2).
 unfoldable pub charge : (M S D : ℕ) → ℕ
-charge M S D = ceilDiv (11 * M * S) (10 * D * scale)
+charge M S D = cond (eqb D 0) 0 (ceilDiv (11 * M * S) (10 * D * scale))
 
 unfoldable pub raw : Opening → List KeptDay → (m : ℕ) → ℕ
 raw o days m = charge (highest o days) (sumOfShares o days m) (length days)
@@ -42,10 +48,12 @@ funded rawCharge = max rawCharge minimum
 unfoldable pub unfunded : (rawCharge : ℕ) → ℕ
 unfunded rawCharge = 2 * funded rawCharge
 
--- "An exact charge is 11·M·(sum of the member's e/T over these days) / (10·D), a fraction over whole numbers with nothing rounded."
+-- "An exact charge is 11·M·(sum of the member's e/T over these days) / (10·D), a fraction over whole numbers with nothing rounded." Where D
+-- is 0 it is 0 over 1: "with every exact charge 0 in such a period" (Change 2).
 unfoldable pub exactCharge : Opening → List KeptDay → (m : ℕ) → Fraction
 exactCharge o days m =
-    (11 * highest o days) over (10 * length days) ⊗ Σᶠ days (λ d. loss (o .k) (d .accounts) m over total o (d .accounts))
+    let D = length days in
+    cond (eqb D 0) (0 over 1) ((11 * highest o days) over (10 * D) ⊗ Σᶠ days (λ d. loss (o .k) (d .accounts) m over total o (d .accounts)))
 
 -- "A member's shortfall is 50,000,000 less its raw charge, or 0 where that is negative": a natural number's `-` stops at 0.
 unfoldable pub shortfall : (rawCharge : ℕ) → ℕ

@@ -1,5 +1,6 @@
--- Document 01, "Calls on a period": the refusal table, call by call, each row in its order of precedence. "Where several hold: opening 2, 1;
--- day 2, 4, 3, 5, 6, 7; closing 2, 8, 4." Row 9 is the text's. `Heading`, `Opening`, `DayTerms`, `Status` and `Refusal` are declared in src/lib.rt.
+-- Document 01, "Calls on a period": the refusal table, call by call, each row in its order of precedence: opening 2, 1; day 2, 4, 3, 5, 6,
+-- 7; closing 2, 4. By document 02's Change 2, "Number 8 no longer occurs". Row 9 is the text's. `Heading`, `Opening`, `DayTerms`, `Status`
+-- and `Refusal` are declared in src/lib.rt.
 use mathlib.Core.Bool.{Bool, true, false, not, _&&_, _||_, cond}
 use mathlib.Core.List.{List, [], _∷_}
 use Prim.Native.Nat.{ℕ, suc, _+_, _*_}
@@ -183,10 +184,10 @@ dayRefusal s o last d room =
 
 -- ---- closing
 
--- "closing 2, 8, 4". Row 2: "closing while not open". Row 8: "closing with D = 0". Row 4: "output not [..] 3n (closing) long".
-unfoldable pub closingRefusal : Status → Opening → (D room : ℕ) → Refusal
-closingRefusal s o D room =
+-- Closing 2, 4. Row 2: "closing while not open". Row 4: "output not [..] 3n (closing) long". A closing with no accepted day is as good as
+-- any (Change 2).
+unfoldable pub closingRefusal : Status → Opening → (room : ℕ) → Refusal
+closingRefusal s o room =
     row 2 when not (isOpen s) else
-    row 8 when eqb D 0 else
     row 4 when not (eqb room (3 * o .n)) else
     Clear

@@ -38,7 +38,7 @@ lastNumber (d ∷ ds) = d .number
 unfoldable pub refusal : Register → Call → Refusal
 refusal g (opening o) = openingRefusal (g .status) o
 refusal g (day d room) = dayRefusal (g .status) (g .held) (lastNumber (g .days)) d room
-refusal g (closing room) = closingRefusal (g .status) (g .held) (length (g .days)) room
+refusal g (closing room) = closingRefusal (g .status) (g .held) room
 
 -- The register as an accepted call leaves it: "an opening makes the status open, is held, and drops all days; a day is kept; a closing
 -- makes the status closed". M, D, the last accepted day number and all sums are worked from the days, so an opening makes them 0.

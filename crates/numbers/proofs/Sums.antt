@@ -47,7 +47,7 @@ unfolding Σ
 Σ-eq [] f g h = refl
 Σ-eq (x ∷ xs) f g h = ap₂ _+_ (h x (here refl)) (Σ-eq xs f g (λ y m. h y (there m)))
 
-Σ-zero : {A : Type 0} (xs : List A) (f : A → ℕ) → ((x : A) → x ∈ xs → f x ≡ 0) → Σ xs f ≡ 0
+pub Σ-zero : {A : Type 0} (xs : List A) (f : A → ℕ) → ((x : A) → x ∈ xs → f x ≡ 0) → Σ xs f ≡ 0
 Σ-zero xs f h = omega (arith, Σ-eq xs f (λ x. 0) h, Σ-const xs 0)
 
 pub Σ-bound : {A : Type 0} (xs : List A) (f : A → ℕ) (c : ℕ) → ((x : A) → x ∈ xs → f x ≤ c) → Σ xs f ≤ length xs * c

@@ -5,7 +5,7 @@ use Prim.Native.Nat.{ℕ, _*_, _≤_, _<_}
 use native.Mathlib.Omega.{arith}
 use lib.Dec.{eqb}
 use lib.ListN.{getD}
-use borrow.Author.Tests.{eqb-true, eqb-false, not-false}
+use borrow.Author.Tests.{eqb-true, not-false}
 use Rattle.methodology.specs.declared.Refusal.the-variants.{Clear}
 use Rattle.methodology.specs.Refusals.{isOpen, closingRefusal}
 use Rattle.methodology.proofs.Passed.{passed}
@@ -17,17 +17,14 @@ use Rattle.period.proofs.InRange.{Ranged, ranged, open-in-range}
 
 pub record Closable (p : Period) (room : ℕ) : Type 0 where
   pub opened : isOpen (statusOf p) ≡ true
-  pub some : 0 < p .accrued .days
   pub room-long : room ≡ 3 * p .held .n
 
 pub closable : (p : Period) (room : ℕ) → closingRow p room ≡ Clear → Closable p room
 unfolding closingRow closingRefusal
 closable p room e =
-    let (o, r₁) = passed 2 (not (isOpen (statusOf p))) _ e in
-    let (z, r₂) = passed 8 (eqb (p .accrued .days) 0) _ r₁ in
-    let (l, _) = passed 4 (not (eqb room (3 * p .held .n))) _ r₂ in
-    let positive = eqb-false (p .accrued .days) 0 z in
-    record { opened = not-false _ o; some = omega arith; room-long = eqb-true _ _ (not-false _ l) }
+    let (o, r) = passed 2 (not (isOpen (statusOf p))) _ e in
+    let (l, _) = passed 4 (not (eqb room (3 * p .held .n))) _ r in
+    record { opened = not-false _ o; room-long = eqb-true _ _ (not-false _ l) }
 
 module _ {p : Period} {room : ℕ} (c : Closable p room) where
   pub in-range : Ranged p
@@ -39,4 +36,4 @@ module _ {p : Period} {room : ℕ} (c : Closable p room) where
   pub charges : (i : ℕ) → i < p .held .n → Charge (p .accrued .highest) (getD (p .accrued .sums) i 0) (p .accrued .days)
   charges i h =
       let r = in-range in
-      record { bounded = r .bounded; positive = c .some; month = omega (arith, r .counted, r .month); shares = r .sums i }
+      record { bounded = r .bounded; month = omega (arith, r .counted, r .month); shares = r .sums i }

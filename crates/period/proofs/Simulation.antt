@@ -209,7 +209,7 @@ day-follows {g} {p} {d} {before} f m =
 
 -- ---- closing
 
-closing-row : {g : Register} {p : Period} → Follows g p → (room : ℕ) → closingRow p room ≡ refusal g (Call.closing room)
+pub closing-row : {g : Register} {p : Period} → Follows g p → (room : ℕ) → closingRow p room ≡ refusal g (Call.closing room)
 unfolding closingRow refusal closingRefusal periodOf
 closing-row f room = rw (open-alike f, f .is)
 

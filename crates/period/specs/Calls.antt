@@ -112,7 +112,7 @@ pub record DayMeets (p : Period) (d : DayInput) (before : List ℕ) (r : Reply) 
 -- ---- closing
 
 unfoldable pub closingRow : Period → (room : ℕ) → Refusal
-closingRow p room = closingRefusal (statusOf p) (heldBy p) (p .accrued .days) room
+closingRow p room = closingRefusal (statusOf p) (heldBy p) room
 
 -- the sums of the members' shares, and the raw charge for one of them
 abbrev pub sumsHeld : Period → List ℕ

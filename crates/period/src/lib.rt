@@ -397,18 +397,14 @@ impl Period {
         self.lend_day(terms, headings, n, npvs, margins, extras, out)
     }
 
-    // The refusal table's rows of a closing, in their order: 2, 8, 4.
+    // The refusal table's rows of a closing, in their order: 2, 4.
     fn closing_row(self, room: usize) -> Refusal
         ensures { λ r. ⌜ r ≡ closingRow self room ⌝ }
     {
         let n = self.held.n;
-        let days = self.accrued.days;
         let status = self.status_of();
         if !is_open(status) {
             return Refusal::Row(2);
-        }
-        if days == 0 {
-            return Refusal::Row(8);
         }
         if room as u64 != 3 * n {
             return Refusal::Row(4);

@@ -13,10 +13,9 @@ pub record Loss (e t : ℕ) : Type 0 where
   pub part : e ≤ t
   pub bounded : t ≤ greatestTotal
 
--- the sum s of a member's shares over d days, and the highest Max EUL m of these days
+-- the sum s of a member's shares over d days, and the highest Max EUL m of these days, of which there may be none
 pub record Charge (m s d : ℕ) : Type 0 where
   pub bounded : m ≤ greatestTotal
-  pub positive : 0 < d
   pub month : d ≤ 31
   pub shares : s ≤ d * scale
 

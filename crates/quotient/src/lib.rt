@@ -40,7 +40,7 @@ pub fn daily(e: u64, max: u64, t: u64) -> Cents
 // The raw charge for shares that sum to s over d days, where the highest Max EUL is m. The divisor 10 * d * SCALE is
 // too great for long division, and rounding up in two steps is rounding up once.
 pub fn raw(m: u64, s: u64, d: u64) -> u64
-    requires { ⌜ Charge m s d ⌝ }
+    requires { ⌜ Charge m s d × (0 < d) ⌝ }
     ensures { λ r. ⌜ r ≡ ceilDiv (11 * m * s) (10 * d * scale) ⌝ }
 {
     div_up(mul_div_up(m, 11 * s, SCALE), 10 * d)

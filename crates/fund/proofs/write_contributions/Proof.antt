@@ -8,10 +8,9 @@ use borrow.Author.Needs.{needs}
 use Rattle.numbers.specs.Sums.{Σ}
 use Rattle.numbers.proofs.Filling.{FilledRows, filled-rows-none, filled-rows-more, filled-rows-all}
 use Rattle.numbers.proofs.Sums.{Σ-more}
-use Rattle.methodology.specs.Day.{scale}
 use Rattle.methodology.specs.Contribution.{charge, funded, three}
 use Rattle.quotient.specs.Ranges.{Charge, greatestTotal}
-use Rattle.quotient.proofs.QuotientBounds.{raw-le}
+use Rattle.fund.proofs.RawCharge.{charge-le}
 use Rattle.fund.proofs.write_contributions.Statement.{statement}
 use Rattle.fund.proofs.write_contributions.Tie as tie
 
@@ -26,14 +25,14 @@ loop-holds : tie.Need-loop-holds Inv-loop μ-loop
 unfolding three Σ
 loop-holds c = (filled-rows-none 3 _ (λ s. refl) (search needs) (c .before .pre .0 .1), omega arith, refl)
 
-mul-raw : tie.Need-mul-raw Inv-loop μ-loop
-mul-raw c = search needs
+mul-raw-charge : tie.Need-mul-raw-charge Inv-loop μ-loop
+mul-raw-charge c = search needs
 
-array-read-raw : tie.Need-array-read-raw Inv-loop μ-loop
-array-read-raw c = search needs
+array-read-raw-charge : tie.Need-array-read-raw-charge Inv-loop μ-loop
+array-read-raw-charge c = search needs
 
-raw-requires : tie.Need-raw-requires Inv-loop μ-loop
-raw-requires c κs = c .before .before .before .pre .1 (c .before .loop .i) (search needs)
+raw-charge-requires : tie.Need-raw-charge-requires Inv-loop μ-loop
+raw-charge-requires c κs = c .before .before .before .pre .1 (c .before .loop .i) (search needs)
 
 mul-write-three : tie.Need-mul-write-three Inv-loop μ-loop
 mul-write-three c = search needs
@@ -50,12 +49,12 @@ part-write-three-start c = search needs
 part-write-three-end : tie.Need-part-write-three-end Inv-loop μ-loop
 part-write-three-end c = search needs
 
-raw-most : (c : tie.After-raw Inv-loop μ-loop) → c .raw .result ≤ 2 * greatestTotal
+raw-most : (c : tie.After-raw-charge Inv-loop μ-loop) → c .raw-charge .result ≤ 2 * greatestTotal
 raw-most c =
     let l = c .before .before in
     let a = l .before .before .args in
     let h : Charge (a .m) (getD (a .t1) (l .loop .i) 0) (a .d) = l .before .before .pre .1 (l .loop .i) (search needs) in
-    omega (arith, raw-le scale (a .m) _ (a .d) (omega arith) (h .positive) (h .shares))
+    omega (arith, charge-le (a .m) _ (a .d) (h .shares), h .bounded, c .raw-charge .ensures)
 
 write-three-requires : tie.Need-write-three-requires Inv-loop μ-loop
 write-three-requires c κs = (raw-most (c .before), simp (length-take, length-drop) (omega arith))
@@ -76,10 +75,10 @@ loop-less : tie.Need-loop-less Inv-loop μ-loop
 loop-less c = search needs
 
 loop-again : tie.Need-loop-again Inv-loop μ-loop
-unfolding three charge
+unfolding three
 loop-again c =
     let w = c .before .before .write-three in
-    let r = c .before .before .before .before .raw in
+    let r = c .before .before .before .before .raw-charge in
     let l = c .before .before .before .before .before .before in
     let v = l .loop .inv in (
       filled-rows-more 3 _ (λ s. refl) (search needs) 0 (search needs) (v .0) (w .kept .1 .0) (rw (r .ensures) at (w .ensures .1)),
@@ -105,9 +104,9 @@ write-contributions-spec =
     Inv-loop
     μ-loop
     loop-holds
-    mul-raw
-    array-read-raw
-    raw-requires
+    mul-raw-charge
+    array-read-raw-charge
+    raw-charge-requires
     mul-write-three
     mul-write-three-2
     sub-write-three

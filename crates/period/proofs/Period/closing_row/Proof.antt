@@ -28,24 +28,20 @@ returns : tie.Need-returns
 unfolding closingRow closingRefusal row_when_else_
 returns c = rw (found (c .before) false (not-true _ (c .if1 .taken)))
 
+mul-if2 : tie.Need-mul-if2
+mul-if2 c =
+    let l = opening-leaves _ (ranged _ (open-in-range _ (opened c)) .opened) in
+    omega (arith, l .members-few)
+
 returns-2 : tie.Need-returns-2
 unfolding closingRow closingRefusal row_when_else_
-returns-2 c = rw (opened (c .before), eq-eqb _ _ (c .if2 .taken))
-
-mul-if3 : tie.Need-mul-if3
-mul-if3 c =
-    let l = opening-leaves _ (ranged _ (open-in-range _ (opened (c .before))) .opened) in
-    omega (arith, l .members-few)
+returns-2 c = rw (opened (c .before), ne-eqb _ _ (c .if2 .taken))
 
 returns-3 : tie.Need-returns-3
 unfolding closingRow closingRefusal row_when_else_
-returns-3 c = rw (opened (c .before .before), ne-eqb _ _ (c .before .if2 .left), ne-eqb _ _ (c .if3 .taken))
-
-returns-4 : tie.Need-returns-4
-unfolding closingRow closingRefusal row_when_else_
-returns-4 c = rw (opened (c .before .before), ne-eqb _ _ (c .before .if2 .left), eq-eqb _ _ (c .if3 .left))
+returns-3 c = rw (opened (c .before), eq-eqb _ _ (c .if2 .left))
 
 pub closing-row-spec : {M : Type 1} → statement M
 closing-row-spec =
     tie.close
-    (tie.spec status-of-requires is-open-requires returns returns-2 mul-if3 returns-3 returns-4)
+    (tie.spec status-of-requires is-open-requires returns mul-if2 returns-2 returns-3)

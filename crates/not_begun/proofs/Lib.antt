@@ -1,0 +1,3 @@
+pub mod NeverOccurs
+mod MonthText
+pub mod NotBegun

@@ -1,0 +1,146 @@
+-- A month that has not begun: every figure of a closing without days, by computation; that such a closing is accepted; and so for every list
+-- of calls, by demand 3, and every text of period, members and end. With it the claim is whole: `not-begun`.
+use mathlib.Core.Path.{_≡_, refl, sym, ap, subst, _∙_}
+use mathlib.Core.Bool.{false}
+use mathlib.Core.List.{List, [], _∷_, _++_, map, flatMap, append-assoc}
+use Prim.Native.Nat.{ℕ, _-_, _*_, _+_, _≤_}
+use native.Mathlib.Omega.{arith}
+use lib.ListN.{length}
+use borrow.Author.Tests.{eq-eqb}
+use Rattle.numbers.specs.Sums.{Σ}
+use Rattle.numbers.proofs.Lists.{_∈_, range-length, mem-range, map-eq}
+use Rattle.numbers.proofs.Rows.{flatMap-map, rows-part}
+use Rattle.numbers.proofs.Sums.{Σ-const}
+use Rattle.methodology.specs.declared.Status.the-variants.{Open}
+use Rattle.methodology.specs.declared.Refusal.the-variants.{Clear}
+use Rattle.methodology.specs.declared.Opening.{Opening}
+use Rattle.methodology.specs.Account.{members}
+use Rattle.methodology.specs.Contribution.{charge, raw, funded, unfunded, three, contributions, totalFunded}
+use Rattle.methodology.specs.Refusals.{row_when_else_, badOpening, closingRefusal}
+use Rattle.methodology.specs.Register.{Call, Register, start, refusal, accept, step, returned, written, accepted, answer, buffer}
+use Rattle.methodology.specs.Text.{bytes, printed, stretch, rows, fundLines, closed, reportOf}
+use Rattle.methodology.proofs.Passed.{step-clear}
+use Rattle.fund.proofs.RawCharge.{highest-none, raw-none, exact-none}
+use Rattle.period.specs.Reading.{answerOf}
+use Rattle.period.specs.Registered.{periodOf}
+use Rattle.period.specs.Calls.{freshPeriod}
+use Rattle.demand3.specs.Made.{Asked, Made, callOf, MadeOn}
+use Rattle.demand3.specs.Demand3.{Agrees, Holds, registerAfter}
+use Rattle.demand3.proofs.Demand3.{demand-3}
+use Rattle.not_begun.specs.NotBegun.{NoDay, AsNotBegun, closedAt, textOf, fundOf, NotBegun}
+use Rattle.not_begun.proofs.MonthText.{clear, report-closes}
+
+-- ---- the figures
+
+writes-none : (o : Opening) → contributions o [] ≡ flatMap (λ m. 0 ∷ 50000000 ∷ 100000000 ∷ []) (members (o .n))
+unfolding contributions three raw charge funded unfunded
+writes-none o = refl
+
+total-none : (o : Opening) → totalFunded o [] ≡ o .n * 50000000
+unfolding totalFunded raw charge funded
+total-none o = Σ-const (members (o .n)) 50000000 ∙ ap (λ (n : ℕ). n * 50000000) (range-length 1 (o .n))
+
+-- ---- the register
+
+module _ (g : Register) (room : ℕ) (none : NoDay g) (long : room ≡ 3 * g .held .n) where
+  abbrev call : Call
+  call = Call.closing room
+
+  closing-clear : refusal g call ≡ Clear
+  unfolding refusal closingRefusal row_when_else_
+  closing-clear = rw (none .opened, eq-eqb room (3 * g .held .n) long)
+
+  leaves : step g call ≡ closedAt g
+  unfolding accept
+  leaves = step-clear g call closing-clear ∙ rw (none .none)
+
+  says : answer g call ≡ accepted (0 ∷ 0 ∷ g .held .n * 50000000 ∷ [])
+  unfolding answer returned
+  says = rw (closing-clear, leaves, highest-none (g .held), total-none (g .held))
+
+  writes : (before : List ℕ) → buffer g call before ≡ flatMap (λ m. 0 ∷ 50000000 ∷ 100000000 ∷ []) (members (g .held .n))
+  unfolding buffer written
+  writes before = rw (closing-clear, leaves) (writes-none (g .held))
+
+  closes : (before : List ℕ) → AsNotBegun (g .held .n) (answer g call) (buffer g call before) × (step g call ≡ closedAt g)
+  closes before = (record { says = says; writes = writes before }, leaves)
+
+-- ---- lists of calls
+
+-- the last call of a list agrees with the register that the others have left
+last-agrees : (g : Register) (cs : List Made) (c : Made) → Holds g (cs ++ (c ∷ [])) → Agrees (registerAfter g cs) c
+last-agrees g [] c (agreed, _, _) = agreed
+last-agrees g (b ∷ cs) c (_, _, h) = last-agrees (step g (callOf (b .asked))) cs c h
+
+every-list : (cs : List Made) (c : Made) (out : List ℕ) → MadeOn freshPeriod (cs ++ (c ∷ [])) → c .asked ≡ Asked.closing out
+    → NoDay (registerAfter start cs) → length out ≡ 3 * registerAfter start cs .held .n
+    → AsNotBegun (registerAfter start cs .held .n) (answerOf (c .reply .outcome)) (c .after) × (c .reply .period ≡ periodOf (closedAt (registerAfter start cs)))
+every-list cs c out made is none long =
+    let g = registerAfter start cs in
+    let agreed = last-agrees start cs c (demand-3 .every-list (cs ++ (c ∷ [])) made) in
+    let (so, leaves) = closes g (length out) none long out in (
+      record { says = agreed .answer ∙ rw is (so .says); writes = agreed .buffer ∙ rw is (so .writes) },
+      agreed .period ∙ rw is (ap periodOf leaves),
+    )
+
+after-one : (g : Register) (cs : List Made) (a : Made) → registerAfter g (cs ++ (a ∷ [])) ≡ step (registerAfter g cs) (callOf (a .asked))
+after-one g [] a = refl
+after-one g (b ∷ cs) a = after-one (step g (callOf (b .asked))) cs a
+
+-- an accepted opening leaves no day
+opened-none : (g : Register) (o : Opening) → refusal g (Call.opening o) ≡ Clear → step g (Call.opening o) ≡ record { status = Open; held = o; days = [] }
+unfolding accept
+opened-none g o e = step-clear g (Call.opening o) e
+
+at-once : (cs : List Made) (a c : Made) (o : Opening) (out : List ℕ) → MadeOn freshPeriod (cs ++ (a ∷ c ∷ []))
+    → a .asked ≡ Asked.opening o → refusal (registerAfter start cs) (Call.opening o) ≡ Clear
+    → c .asked ≡ Asked.closing out → length out ≡ 3 * o .n
+    → AsNotBegun (o .n) (answerOf (c .reply .outcome)) (c .after)
+at-once cs a c o out made is e is′ long =
+    let g = registerAfter start (cs ++ (a ∷ [])) in
+    let left : g ≡ record { status = Open; held = o; days = [] } = after-one start cs a ∙ rw is (opened-none (registerAfter start cs) o e) in
+    let made′ = subst (MadeOn freshPeriod) (sym (append-assoc cs (a ∷ []) (c ∷ []))) made in
+    let none : NoDay g = record { opened = rw left refl; none = rw left refl } in
+    let so = every-list (cs ++ (a ∷ [])) c out made′ is′ none (long ∙ rw left refl) .0 in
+    subst (λ (g : Register). AsNotBegun (g .held .n) (answerOf (c .reply .outcome)) (c .after)) left so
+
+-- ---- texts
+
+module _ (n : ℕ) where
+  abbrev each : (m : ℕ) → List ℕ
+  each m = 0 ∷ 50000000 ∷ 100000000 ∷ []
+
+  stretch-is : (m : ℕ) → m ∈ members n → stretch 3 m (flatMap each (members n)) ≡ each m
+  stretch-is m i = let (low, high) = mem-range 1 n i in rows-part 3 each (λ m. refl) (members n) (m - 1) 0 (omega (arith, range-length 1 n))
+
+  fund-is : fundLines n (0 ∷ 0 ∷ n * 50000000 ∷ []) (flatMap each (members n)) ≡ fundOf n
+  unfolding fundLines rows
+  fund-is =
+      let word = bytes "contribution" in
+      let line : ℕ → List ℕ = λ m. m ∷ stretch 3 m (flatMap each (members n)) in
+      ap (λ (l : List ℕ). printed (bytes "fund") (0 ∷ 0 ∷ n * 50000000 ∷ []) ++ l)
+      (sym (flatMap-map line (members n) (printed word))
+      ∙ ap (flatMap (printed word)) (map-eq line (λ m. m ∷ each m) (members n) (λ m i. ap (λ (l : List ℕ). m ∷ l) (stretch-is m i)))
+      ∙ flatMap-map (λ m. m ∷ each m) (members n) (printed word))
+
+report : (o : Opening) → badOpening o ≡ false → reportOf (textOf o) ≡ fundOf (o .n)
+unfolding closed returned written
+report o good =
+    let g = step start (Call.opening o) in
+    let is : g ≡ record { status = Open; held = o; days = [] } = opened-none start o (clear o good) in
+    let none : NoDay g = record { opened = rw is refl; none = rw is refl } in
+    report-closes o good
+    ∙ rw (closing-clear g (3 * g .held .n) none refl, leaves g (3 * g .held .n) none refl, highest-none (g .held), total-none (g .held), writes-none (g .held))
+    (fund-is (g .held .n) ∙ rw is refl)
+
+pub not-begun : NotBegun
+not-begun =
+    record {
+      M-is = highest-none;
+      raw-is = raw-none;
+      exact-is = exact-none;
+      closes = λ g before none long. closes g (length before) none long before;
+      every-list = every-list;
+      at-once = at-once;
+      report = report;
+    }

@@ -1,0 +1,2 @@
+pub mod NeverOccurs
+pub mod NotBegun
