@@ -391,12 +391,9 @@ impl Period {
         Ok(())
     }
 
-    /// The closing call; `line` is the end line's number. Prints the fund where it is accepted.
-    fn close(&self, line: u64, report: &mut Report) -> Result<(), Refused> {
-        if self.days == 0 {
-            return Err(Refused { row: 8, line });
-        }
-        let divisor = 10 * u128::from(self.days) * SHARE;
+    /// The closing call, which prints the fund. Without days there are no shares, and no charge.
+    fn close(&self, report: &mut Report) {
+        let divisor = 10 * u128::from(self.days.max(1)) * SHARE;
         let mut charges = [0; MEMBERS];
         for (charge, &shares) in charges.iter_mut().zip(&self.shares[..self.n]) {
             let dividend = 11 * u128::from(self.max_eul) * u128::from(shares);
@@ -409,7 +406,6 @@ impl Period {
             let funded = raw.max(MINIMUM);
             report.line(b"contribution", &[i as u64 + 1, raw, funded, 2 * funded]);
         }
-        Ok(())
     }
 }
 
@@ -464,12 +460,12 @@ fn month(bytes: &[u8], length: usize, report: &mut Report) -> Result<(), Refused
         }
         period.day(&mut text, report)?;
     }
-    let end = text.line;
     if text.at < length {
         text.begin_line();
         return Err(text.bad());
     }
-    period.close(end, report)
+    period.close(report);
+    Ok(())
 }
 
 fn main() -> io::Result<()> {

@@ -20,7 +20,7 @@ from itertools import zip_longest
 import months
 import recalculation
 
-ENDS = ["fund"] + [f"refused {row}" for row in (1, 3, 4, 5, 6, 7, 8, 9)]
+ENDS = ["fund", "fund 0"] + [f"refused {row}" for row in (1, 3, 4, 5, 6, 7, 9)]
 
 
 def ran(program, text):
@@ -34,9 +34,11 @@ def ran(program, text):
 
 
 def end_of(report):
-    """The kind of a report's last line."""
+    """How a report ends: in a refusal, in a fund, or in that of a month without days."""
     fields = report.rstrip(b"\n").rsplit(b"\n", 1)[-1].split(b"\t")
-    return "refused " + fields[1].decode() if fields[0] == b"refused" else "fund"
+    if fields[0] == b"refused":
+        return "refused " + fields[1].decode()
+    return "fund 0" if report.startswith(b"fund\t0\t") else "fund"
 
 
 def one(task):

@@ -463,7 +463,7 @@ def line_cut(rng, lines):
 
 
 def line_no_days(rng, lines):
-    """The closing call comes with no day accepted."""
+    """A month that has not begun."""
     lines[:] = [line for line in lines if line[0] not in (b"day", b"acct")]
 
 

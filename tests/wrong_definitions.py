@@ -93,7 +93,14 @@ Contribution.raw | (length days) | (length (take 2 days))
 Contribution.charge | ceilDiv (11 * M * S) (10 * D * scale) | ceilDiv (11 * M * ceilDiv S D) (10 * scale)
 Contribution.charge | ceilDiv (11 * M * S) (10 * D * scale) | ceilDiv (11 * ceilDiv (M * S) (D * scale)) 10
 Contribution.charge | ceilDiv (11 * M * S) (10 * D * scale) | roundDiv (11 * M * S) (10 * D * scale)
-Contribution.exactCharge | (11 * highest o days) over (10 * length days) | (11 * highest o days) over 10
+Contribution.exactCharge | (11 * highest o days) over (10 * D) | (11 * highest o days) over 10
+Contribution.exactCharge | (0 over 1) | (0 over 0)
+Contribution.exactCharge | cond (eqb D 0) (0 over 1) ((11 | cond (eqb D 0) ((11 * highest o days) over 10) ((11
+Contribution.charge | cond (eqb D 0) 0 | cond (eqb D 0) 50000000
+Contribution.funded | max rawCharge minimum | cond (eqb rawCharge 0) 0 (max rawCharge minimum)
+Contribution.contributions | flatMap (λ m. three (raw o days m)) (members (o .n)) | cond (eqb (length days) 0) [] (flatMap (λ m. three (raw o days m)) (members (o .n)))
+Register.refusal | closingRefusal (g .status) (g .held) room | cond (eqb (length (g .days)) 0) (Row 8) (closingRefusal (g .status) (g .held) room)
+Register.accept | record { status = Closed; held = g .held; days = g .days } | record { status = cond (eqb (length (g .days)) 0) Open Closed; held = g .held; days = g .days }
 Contribution.allowance | whole 1 ⊕ (11 * M) over (10 * scale) | whole 1
 Contribution.allowance | whole 1 ⊕ (11 * M) over (10 * scale) | (11 * M) over (10 * scale)
 Contribution.totalFunded | funded (raw o days m) | raw o days m

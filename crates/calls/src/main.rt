@@ -1,7 +1,7 @@
 // One list of calls on a period, from a fresh one on: each call gets the period that the one before returned. It shows every row of
 // document 01's refusal table that a call can meet, by each of its conditions but more than 256 headings, which no array here holds, and
 // each two rows that follow one another in an order of precedence; among them accepted calls, whose figures show that a refused one left
-// nothing behind; and four months, three of them opened after a closing.
+// nothing behind; and six months, five of them opened after a closing, two of which have not begun.
 //
 // A call prints its number and what it says: accepted with its figures, or refused with the row and, in rows 5 and 6, the index. A day and
 // a closing then print the buffer that they were lent, which was filled with 7. The stored output was worked out from document 01, by a
@@ -231,7 +231,7 @@ fn with_amounts(
 
 // A fresh period takes an opening only, and within its limits.
 fn fresh(p: Period) -> Period {
-    // Row 2; also where 4 or 8 holds with it.
+    // Row 2; also where 4 holds with it.
     let p = good(1, p, 1);
     let p = with_lengths(2, p, 1, 0, 0, 0, 0, 15);
     let p = closing(3, p, &mut [7; 9]);
@@ -254,8 +254,8 @@ fn opened(p: Period) -> Period {
     // Row 2, also where 1 holds with it.
     let p = opening(14, p, 1, 2, &[0]);
     let p = opening(15, p, 0, 1, &[]);
-    // Row 8, also where 4 holds with it.
-    let p = closing(16, p, &mut [7; 9]);
+    // Row 4 of a closing, which refuses it for its buffer alone; one of a good length is call 89.
+    let p = closing(16, p, &mut [7; 10]);
     let p = closing(17, p, &mut [7; 8]);
     // Row 3.
     let p = good(18, p, 0);
@@ -415,12 +415,14 @@ fn two_scenarios(call: u64, period: Period, number: u64) -> Period {
 // Two Affiliates and two scenarios. D, M, the sums and the last day number are 0 again, and n, k and the groups are new.
 fn reopened(p: Period) -> Period {
     let p = opening(88, p, 2, 2, &[32; 2]);
-    // Row 8 again, and row 4 for the lengths of the month before.
+    // A month that has not begun, in which nothing is left of the month before.
     let p = closing(89, p, &mut [7; 6]);
-    let p = good(90, p, 1);
+    let p = opening(90, p, 2, 2, &[32; 2]);
+    // Row 4 for the lengths of the first month.
+    let p = good(91, p, 1);
     // The member's own EUL is above 0 and no EUL under a scenario is: T is 20, Max EUL is 0.
     let p = day(
-        91,
+        92,
         p,
         1,
         &[1, 1, 2],
@@ -432,10 +434,10 @@ fn reopened(p: Period) -> Period {
         &mut [7; 10],
     );
     // Row 3, and a day of another Max EUL.
-    let p = two_scenarios(92, p, 1);
-    let p = two_scenarios(93, p, 2);
-    let p = closing(94, p, &mut [7; 9]);
-    closing(95, p, &mut [7; 6])
+    let p = two_scenarios(93, p, 1);
+    let p = two_scenarios(94, p, 2);
+    let p = closing(95, p, &mut [7; 9]);
+    closing(96, p, &mut [7; 6])
 }
 
 // Members 1 to 32, account numbers 0 to 255, and NPVs that fall from limit to limit.
@@ -472,7 +474,7 @@ fn most_members(p: Period) -> Period {
     groups[0] = 32;
     groups[4] = 32;
     groups[31] = 32;
-    let p = opening(96, p, 32, 16, &groups);
+    let p = opening(97, p, 32, 16, &groups);
     let all = full_size();
     let members = all.members;
     let zeros = [0; 32];
@@ -485,7 +487,7 @@ fn most_members(p: Period) -> Period {
     let mut margins = [0; 32];
     margins[4] = 1;
     let p = day(
-        97,
+        98,
         p,
         31,
         &members,
@@ -496,12 +498,12 @@ fn most_members(p: Period) -> Period {
         &zeros,
         &mut [7; 160],
     );
-    closing(98, p, &mut [7; 96])
+    closing(99, p, &mut [7; 96])
 }
 
 // The most accounts, each with the greatest EUL that there is: no T is greater.
 fn most_accounts(p: Period) -> Period {
-    let p = opening(99, p, 1, 1, &[1]);
+    let p = opening(100, p, 1, 1, &[1]);
     let mut kinds = [3; 256];
     kinds[0] = 0;
     let all = full_size();
@@ -509,7 +511,7 @@ fn most_accounts(p: Period) -> Period {
     let npvs = all.npvs;
     let most = [MOST; 256];
     let p = day(
-        100,
+        101,
         p,
         1,
         &[1; 256],
@@ -520,7 +522,14 @@ fn most_accounts(p: Period) -> Period {
         &most,
         &mut [7; 5],
     );
-    closing(101, p, &mut [7; 3])
+    closing(102, p, &mut [7; 3])
+}
+
+// A month of one member that has not begun. Its closing closes it.
+fn not_begun(p: Period) -> Period {
+    let p = opening(103, p, 1, 16, &[32]);
+    let p = closing(104, p, &mut [7; 3]);
+    closing(105, p, &mut [7; 3])
 }
 
 fn main() {
@@ -534,5 +543,6 @@ fn main() {
     let p = closed(p);
     let p = reopened(p);
     let p = most_members(p);
-    most_accounts(p);
+    let p = most_accounts(p);
+    not_begun(p);
 }

@@ -2,18 +2,16 @@
 -- `Cover` in the crate `fund` has the bounds.
 use mathlib.Core.Path.{_≡_, refl, sym, ap, _∙_}
 use mathlib.Core.List.{List, [], _∷_}
-use Prim.Native.Nat.{ℕ, zero, suc, _+_, _-_, _*_, _≤_, _<_}
+use Prim.Native.Nat.{ℕ, _+_, _-_, _*_, _≤_, _<_}
 use native.Mathlib.Omega.{arith}
 use lib.ListN.{length, getD}
 use Rattle.numbers.specs.Sums.{Σ}
-use Rattle.numbers.specs.Lists.{range}
 use Rattle.numbers.specs.Fractions.{Proper}
 use Rattle.numbers.proofs.Lists.{mem-range, range-at, range-length}
 use Rattle.numbers.proofs.Rows.{rows-at, rows-length}
 use Rattle.numbers.proofs.Sums.{Σ-eq}
 use Rattle.methodology.specs.declared.Opening.{Opening}
 use Rattle.methodology.specs.Account.{members}
-use Rattle.methodology.specs.Day.{total}
 use Rattle.methodology.specs.Contribution.{KeptDay, highest, raw, funded, shortfall, allowance, three, contributions, totalFunded}
 use Rattle.methodology.specs.Register.{Call, Register, returned, written, accepted}
 use Rattle.fund.specs.Counted.{Counted}

@@ -7,8 +7,8 @@ use native.Mathlib.Omega.{arith}
 use lib.Dec.{eqb}
 use lib.ListN.{length}
 use borrow.Author.Tests.{ne-eqb}
-use Rattle.numbers.specs.Sums.{Σ, greatest}
-use Rattle.numbers.specs.Fractions.{Fraction, _over_, _⊗_, Σᶠ}
+use Rattle.numbers.specs.Sums.{greatest}
+use Rattle.numbers.specs.Fractions.{_over_, _⊗_, Σᶠ}
 use Rattle.numbers.specs.Rounding.{ceilDiv}
 use Rattle.methodology.specs.declared.Opening.{Opening}
 use Rattle.methodology.specs.Member.{loss}

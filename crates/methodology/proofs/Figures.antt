@@ -142,6 +142,10 @@ x is-fraction y = (x .num * y .den ∷ min 1 (x .den) ∷ []) is (y .num * x .de
 abbrev exact : List (List ℤ) → Opening → (m : ℕ) → Fraction
 exact ess o m = exactCharge o (days-from 1 (step start (opening o)) ess .days) m
 
+-- a fraction's numerator and denominator
+abbrev parts : Fraction → List ℕ
+parts x = x .num ∷ x .den ∷ []
+
 -- three days of two members; the first has the highest Max EUL
 abbrev worst-first : List (List ℤ)
 worst-first =
@@ -181,9 +185,9 @@ exact-cases =
     -- one scenario, under which the stresses are not 0: 11 · 6 / 10 of 6/8, and of 2/8
     ∷ exactCharge (groups (0 ∷ 0 ∷ [])) (stressed ∷ []) 1 is-fraction 99 over 20
     ∷ exactCharge (groups (0 ∷ 0 ∷ [])) (stressed ∷ []) 2 is-fraction 33 over 20
-    -- no day: the exact charge is 0 (document 02, Change 2), and so is a raw one, whatever M and the sum of shares would be
-    ∷ exact [] (groups (0 ∷ 0 ∷ [])) 1 is-fraction 0 over 1
-    ∷ exact [] (opening-of 3 2 (4 ∷ 4 ∷ 0 ∷ [])) 3 is-fraction 0 over 1
+    -- no day: the exact charge is 0 over 1 (document 02, Change 2), and a raw one 0, whatever M and the sum of shares would be
+    ∷ parts (exact [] (groups (0 ∷ 0 ∷ [])) 1) is (0 ∷ 1 ∷ [])
+    ∷ parts (exact [] (opening-of 3 2 (4 ∷ 4 ∷ 0 ∷ [])) 3) is (0 ∷ 1 ∷ [])
     ∷ (charge 0 0 0 ∷ charge 400000000 1000000000000 0 ∷ charge 400000000 1000000000000 1 ∷ []) is (0 ∷ 0 ∷ 440000000 ∷ [])
     -- the allowance is 1 dollar where M is 0, 1 and 1.1 dollars where it is 10^12, and in the printed month 1.000429 dollars
     ∷ allowance 0 is-fraction 1 over 1

@@ -1,5 +1,5 @@
 -- Document 01, "The month's text": for any bytes, the bytes of the report. What is read makes calls, and the register answers them. By
--- document 02's Change 1 a total stands under each accepted day.
+-- document 02's Change 1 a total stands under each accepted day; by its Change 2 a month may have none.
 use mathlib.Core.Bool.{Bool, true, false, not, _&&_, _||_, cond}
 use mathlib.Core.List.{List, [], _∷_, _++_, flatMap}
 use mathlib.Core.Option.{Option, none, some}
@@ -270,7 +270,8 @@ readLine (account g d at count used) i l =
     cond (ltb 65536 now) (bad i) (readAccount g d at count now i (accountOf (g .held .k) l))
 readLine (afterEnd g at) i l = bad i
 
--- "the end line for 8"
+-- The closing call, made at the end line. A refusal would name that line, but the period is open and the output 3n long: since Change 2 no
+-- row is left that it could meet.
 unfoldable pub closed : Refusal → Register → (line : ℕ) → List ℕ
 closed Clear g i =
     let call = Call.closing (3 * g .held .n) in

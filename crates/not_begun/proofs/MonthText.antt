@@ -1,7 +1,7 @@
 -- The report of period, members and end. Each line reads as the numbers that were printed, so the opening is the one that the text was made
 -- of; the closing comes next.
-use mathlib.Core.Path.{_≡_, refl, sym, ap, subst, _∙_}
-use mathlib.Core.Bool.{Bool, true, false, not, _||_, cond}
+use mathlib.Core.Path.{_≡_, refl, sym, ap, _∙_}
+use mathlib.Core.Bool.{true, false, cond}
 use mathlib.Core.List.{List, [], _∷_, _++_, flatMap, append-assoc, append-nil}
 use mathlib.Core.Option.{some}
 use Prim.Native.Nat.{ℕ, zero, suc, _+_, _-_, _*_, _^_, _≤_, _<_}
@@ -12,16 +12,13 @@ use lib.Seq.{take-suc, take-all, length-take-le}
 use borrow.Author.Tests.{eq-eqb, ne-eqb, le-ltb}
 use Rattle.numbers.specs.Lists.{range, any, firstWhere, Every}
 use Rattle.numbers.proofs.Lists.{none-any, every-mem, every-append, every-flatMap, every-weaken}
-use Rattle.numbers.proofs.Tests.{neither}
 use Rattle.methodology.specs.declared.Refusal.the-variants.{Clear}
-use Rattle.methodology.specs.declared.Status.the-variants.{Open}
 use Rattle.methodology.specs.declared.Opening.{Opening}
 use Rattle.methodology.specs.Account.{withGroups, members}
 use Rattle.methodology.specs.Day.{groupNumber}
-use Rattle.methodology.specs.Refusals.{row_when_else_, nOutside, kOutside, badOpening, openingRefusal}
-use Rattle.methodology.specs.Register.{Call, Register, start, refusal, accept, step}
+use Rattle.methodology.specs.Refusals.{row_when_else_, badOpening, openingRefusal}
+use Rattle.methodology.specs.Register.{Call, Register, start, refusal, step}
 use Rattle.methodology.specs.Text.{tab, LF, bytes, same, split, decimal, everyField, also, badBytes, numbersAfter, printed, Expected, period, member, day, readPeriod, Read, goesOn, opened, readMember, readLine, closed, followedBy, reportFrom, reportOf}
-use Rattle.methodology.proofs.Passed.{step-clear}
 use Rattle.methodology.proofs.Splits.{split-first, end-line, nothing-after}
 use Rattle.methodology.proofs.Short.{printed-short}
 use Rattle.validation.specs.Passing.{Opened}

@@ -2,12 +2,11 @@
 -- of calls, by demand 3, and every text of period, members and end. With it the claim is whole: `not-begun`.
 use mathlib.Core.Path.{_≡_, refl, sym, ap, subst, _∙_}
 use mathlib.Core.Bool.{false}
-use mathlib.Core.List.{List, [], _∷_, _++_, map, flatMap, append-assoc}
-use Prim.Native.Nat.{ℕ, _-_, _*_, _+_, _≤_}
+use mathlib.Core.List.{List, [], _∷_, _++_, flatMap, append-assoc}
+use Prim.Native.Nat.{ℕ, _-_, _*_}
 use native.Mathlib.Omega.{arith}
 use lib.ListN.{length}
 use borrow.Author.Tests.{eq-eqb}
-use Rattle.numbers.specs.Sums.{Σ}
 use Rattle.numbers.proofs.Lists.{_∈_, range-length, mem-range, map-eq}
 use Rattle.numbers.proofs.Rows.{flatMap-map, rows-part}
 use Rattle.numbers.proofs.Sums.{Σ-const}

@@ -15,11 +15,10 @@ use Rattle.methodology.specs.Contribution.{highest, raw, exactCharge}
 use Rattle.methodology.specs.Refusals.{badOpening}
 use Rattle.methodology.specs.Register.{Call, Register, start, refusal, step, Answer, accepted, answer, buffer}
 use Rattle.methodology.specs.Text.{bytes, printed, reportOf}
-use Rattle.period.specs.declared.Period.{Period}
 use Rattle.period.specs.Reading.{answerOf}
 use Rattle.period.specs.Registered.{periodOf}
 use Rattle.period.specs.Calls.{freshPeriod}
-use Rattle.demand3.specs.Made.{Asked, Made, callOf, MadeOn}
+use Rattle.demand3.specs.Made.{Asked, Made, MadeOn}
 use Rattle.demand3.specs.Demand3.{registerAfter}
 
 -- ---- a closing

@@ -1,11 +1,11 @@
 -- What each call answers and leaves, by equations, from the period that it is given and its arguments: `OpeningMeets`, `DayMeets` and
 -- `ClosingMeets` are the contracts, whole. Each has an equation for the answer, one for the period, and one for the buffer if it is lent one.
 use mathlib.Core.Bool.{Bool, not, _&&_, cond}
-use mathlib.Core.List.{List, [], _∷_, map, flatMap}
+use mathlib.Core.List.{List, [], _∷_, flatMap}
 use mathlib.Core.Path.{_≡_}
 use Prim.Native.Nat.{ℕ, _+_, _*_, max}
 use lib.Dec.{leb, ltb}
-use lib.ListN.{length, getD, take, replicate}
+use lib.ListN.{length, take, replicate}
 use Rattle.numbers.specs.Lists.{range, any}
 use Rattle.numbers.specs.Sums.{Σ}
 use Rattle.methodology.specs.declared.Status.{Status}

@@ -1,6 +1,5 @@
 -- `raw_charge` meets its contract: it tests for no day, as the definition does.
 use borrow.Author.Needs.{needs}
-use native.Mathlib.Omega.{arith}
 use borrow.Author.Tests.{eq-eqb, ne-eqb}
 use Rattle.methodology.specs.Contribution.{charge}
 use Rattle.fund.proofs.raw_charge.Statement.{statement}
