@@ -85,7 +85,9 @@ day-so {before = before} {rest = rest} {d = d} shows adds told more =
 -- ---- the parts of a report
 
 refused-back : {n before : ℕ} (number line : ℕ) → occurs number ≡ true → line < 2 ^ 32 → ReadsBack n before (refusedLine number line)
-refused-back number line h k = ends-so (refused-shows number line (omega (arith, at-most-9 number h)) (omega arith)) (refused-other number line) (refused-counts number line) (refused-told number line h)
+refused-back number line h k =
+    let shows = refused-shows number line (omega (arith, at-most-9 number h)) (omega arith) in
+    ends-so shows (refused-other number line) (refused-counts number line) (refused-told number line h)
 
 -- an accepted day, and the register as it leaves it
 module _ {g : Register} (k : Kept g) (d : DayInput) (clear : refusal g (dayCall g d) ≡ Clear) where
@@ -145,7 +147,8 @@ rest-back {g = g} near k (a-day {rest = rest} d clear more) =
     let members = ap (λ (x : Register). x .held .n) (step-clear g call clear) in
     let count : length (after .days) ≡ length (g .days) + 1 = ap (λ (x : Register). length (x .days)) (step-clear g call clear) ∙ omega arith in
     let later = subst (λ (before : ℕ). ReadsBack (after .held .n) before rest) count (rest-back near (fit k d clear .kept) more) in
-    subst (λ (n : ℕ). ReadsBack n (length (g .days)) (sizedLines after d call ++ rest)) members (day-so (day-back k d clear) (day-sums k d clear) (no-refusal k d clear) later)
+    subst (λ (n : ℕ). ReadsBack n (length (g .days)) (sizedLines after d call ++ rest)) members
+    (day-so (day-back k d clear) (day-sums k d clear) (no-refusal k d clear) later)
 rest-back {g = g} near k (a-fund clear) =
     let call = closingCall g in
     let after = step g call in

@@ -66,7 +66,8 @@ unfolding allowance
 allowance-proper M = omega arith
 
 -- g is the register as the closing leaves it; it has members, but it may have no days
-pub covers : (g : Register) (room : ℕ) → Counted (g .held) (g .days) → 0 < g .held .n → Covers g (accepted (returned g (Call.closing room))) (written g (Call.closing room))
+pub covers : (g : Register) (room : ℕ) → Counted (g .held) (g .days) → 0 < g .held .n
+    → Covers g (accepted (returned g (Call.closing room))) (written g (Call.closing room))
 unfolding returned written
 covers g room c some =
     let o = g .held in

@@ -1,5 +1,5 @@
 -- Demand 3 of every list of calls: by the calls one after another, each of which the register follows.
-use mathlib.Core.Path.{_≡_, refl, sym, ap, _∙_}
+use mathlib.Core.Path.{_≡_, refl, sym, ap, subst, _∙_}
 use mathlib.Core.List.{List, [], _∷_, _++_}
 use Prim.Native.Nat.{ℕ, _<_}
 use native.Mathlib.Omega.{arith}
@@ -36,9 +36,9 @@ some-members : {g : Register} {p : Period} → Follows g p → (room : ℕ) → 
 unfolding accept
 some-members {g} {p} f room e =
     let range = in-range (closable p room (closing-row f room ∙ e)) in
-    let o = opening-leaves (heldBy p) (range .opened) in
-    let held : heldBy p .n ≡ step g (Call.closing room) .held .n = ap (λ (o : Opening). o .n) (held-by f) ∙ ap (λ (g : Register). g .held .n) (sym (step-clear g (Call.closing room) e)) in
-    omega (arith, o .members-some)
+    let left = ap (λ (g : Register). g .held) (step-clear g (Call.closing room) e) in
+    let held : heldBy p ≡ step g (Call.closing room) .held = held-by f ∙ sym left in
+    subst (λ (o : Opening). 0 < o .n) held (omega (arith, opening-leaves (heldBy p) (range .opened) .members-some))
 
 closes : {g : Register} {p : Period} → Follows g p → (c : Made) → Agrees g c → Good (step g (callOf (c .asked))) → AtClosing g c
 unfolding answer buffer

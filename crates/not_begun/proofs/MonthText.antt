@@ -107,8 +107,8 @@ module _ (o : Opening) (good : badOpening o ≡ false) where
   -- the line of member `count` + 1: the opening call is made where it is the last
   member-read : (count i : ℕ) (rest : List ℕ) → count < o .n
       → reportFrom i (split LF (memberLine (suc count) ++ rest)) (member (upTo count))
-      ≡ followedBy (cond (eqb (suc count) (o .n)) (opened (refusal start (Call.opening (upTo (suc count)))) (upTo (suc count))) (goesOn [] (member (upTo (suc count)))))
-      (reportFrom (i + 1) (split LF rest))
+      ≡ (let o′ = upTo (suc count) in
+      followedBy (cond (eqb (suc count) (o .n)) (opened (refusal start (Call.opening o′)) o′) (goesOn [] (member o′))) (reportFrom (i + 1) (split LF rest)))
   unfolding readLine readMember
   member-read count i rest h =
       let few : groupNumber o (suc count) < 10 ^ 13 = omega (arith, group-is count, limits .group-few count h) in
