@@ -77,7 +77,7 @@ FROM = {
     "greatest": "Rattle.numbers.specs.Sums", "_⁻": "Rattle.numbers.specs.Signed",
     "take": "lib.ListN", "drop": "lib.ListN", "false": "mathlib.Core.Bool", "true": "mathlib.Core.Bool",
     "withGroups": "Rattle.methodology.specs.Account", "dailies": "Rattle.methodology.specs.Day",
-    "map": "mathlib.Core.List",
+    "map": "mathlib.Core.List", "isOpen": "Rattle.methodology.specs.Refusals",
 }
 
 # ---- wrong definitions that no change of one word makes: file, right, wrong
@@ -99,8 +99,11 @@ Contribution.exactCharge | cond (eqb D 0) (0 over 1) ((11 | cond (eqb D 0) ((11 
 Contribution.charge | cond (eqb D 0) 0 | cond (eqb D 0) 50000000
 Contribution.funded | max rawCharge minimum | cond (eqb rawCharge 0) 0 (max rawCharge minimum)
 Contribution.contributions | flatMap (λ m. three (raw o days m)) (members (o .n)) | cond (eqb (length days) 0) [] (flatMap (λ m. three (raw o days m)) (members (o .n)))
-Register.refusal | closingRefusal (g .status) (g .held) room | cond (eqb (length (g .days)) 0) (Row 8) (closingRefusal (g .status) (g .held) room)
-Register.accept | record { status = Closed; held = g .held; days = g .days } | record { status = cond (eqb (length (g .days)) 0) Open Closed; held = g .held; days = g .days }
+Register.refusal | closingRefusal (g .status) (g .held) room | cond (isOpen (g .status) && eqb (length (g .days)) 0) (Row 8) (closingRefusal (g .status) (g .held) room)
+Register.returned | length (g .days) ∷ highest | cond (eqb (highest (g .held) (g .days)) 0) 0 (length (g .days)) ∷ highest
+Register.accept | record { status = Closed; held | record { status = cond (eqb (length (g .days)) 0) Open Closed; held
+Register.accept | record { status = Closed; held | record { status = cond (eqb (length (g .days)) 0) Fresh Closed; held
+Text.atEnd | cond (same rest []) | cond (same rest [] || eqb (length (g .days)) 0)
 Contribution.allowance | whole 1 ⊕ (11 * M) over (10 * scale) | whole 1
 Contribution.allowance | whole 1 ⊕ (11 * M) over (10 * scale) | (11 * M) over (10 * scale)
 Contribution.totalFunded | funded (raw o days m) | raw o days m

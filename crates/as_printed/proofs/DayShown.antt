@@ -4,7 +4,7 @@ use mathlib.Core.Bool.{true, true≢false}
 use mathlib.Core.List.{List, [], _∷_, _++_, map, map-map, map-id}
 use Prim.Native.Nat.{ℕ, suc, _-_, _*_, _≤_}
 use native.Mathlib.Omega.{arith}
-use lib.ListN.{length, getD}
+use lib.ListN.{length, getD, take}
 use Rattle.numbers.specs.Lists.{range, any, Every}
 use Rattle.numbers.specs.Sums.{Σ}
 use Rattle.numbers.proofs.Lists.{mem-range, part-length, every-append, every-map, every-take, every-drop}
@@ -82,7 +82,7 @@ unfolding bytes same
 fund-other n figures out = (refl, every-map Other _ (members n) (λ m i. refl))
 
 -- its D stands first
-pub fund-counts : {D : ℕ} (n : ℕ) (figures out : List ℕ) → getD figures 0 0 ≡ D → Every (Counts D) (fundRead n figures out)
+pub fund-counts : {D : ℕ} (n : ℕ) (figures out : List ℕ) → take 1 figures ≡ D ∷ [] → Every (Counts D) (fundRead n figures out)
 unfolding bytes same
 fund-counts {D} n figures out is = ((λ e. is), every-map (Counts D) _ (members n) (λ m i e. absurd (true≢false (sym e))))
 

@@ -17,7 +17,7 @@ use Rattle.methodology.specs.Text.{LF, bytes, same, split, fields, valueFrom, r
 use Rattle.methodology.proofs.Passed.{step-clear}
 use Rattle.methodology.proofs.RowLimits.{occurs, at-most-9}
 use Rattle.methodology.proofs.Enough.{rises}
-use Rattle.methodology.proofs.Reports.{dayCall, closingCall, sizedLines, Rest, a-day, a-fund, a-refusal, Report, begun, not-begun, reports}
+use Rattle.methodology.proofs.Reports.{dayCall, closingCall, sizedLines, Rest, a-day, a-fund, a-refusal, Report, a-period, no-period, reports}
 use Rattle.fund.proofs.Dailies.{dailies-long}
 use Rattle.demand3.specs.Demand3.{Fits64}
 use Rattle.demand3.proofs.RegisterFits.{Kept, kept-first, CallFits, call-fits, writes-few}
@@ -156,19 +156,19 @@ rest-back {g = g} near k (a-fund clear) =
     let few = fit .kept .follows .good .members-few in
     ends-so (fund-shows (after .held .n) (returned after call) (written after call) (fit .returned-fits clear) (fit .written-fits clear) few)
     (fund-other (after .held .n) (returned after call) (written after call))
-    (fund-counts (after .held .n) (returned after call) (written after call) (ap (λ (x : Register). length (x .days)) (step-clear g call clear)))
+    (fund-counts (after .held .n) (returned after call) (written after call) (ap (λ (x : Register). length (x .days) ∷ []) (step-clear g call clear)))
     (fund-told (after .held .n) (returned after call) (written after call))
 rest-back near k (a-refusal number line h in-text) = refused-back number line h (omega arith)
 
 report-back : {n last : ℕ} {s : List ℕ} → last < 2 ^ 32 → Report n last s → ReadsBack n 0 s
 unfolding accept
-report-back {n} {s = s} near (begun o is few clear rest) =
+report-back {n} {s = s} near (a-period o is few clear rest) =
     let after = step start (Call.opening o) in
     let members = ap (λ (x : Register). x .held .n) (step-clear start (Call.opening o) clear) ∙ is in
     let none : length (after .days) ≡ 0 = ap (λ (x : Register). length (x .days)) (step-clear start (Call.opening o) clear) in
     let back = rest-back near (call-fits kept-first (Call.opening o) .kept) rest in
     subst (λ (before : ℕ). ReadsBack n before s) none (subst (λ (n : ℕ). ReadsBack n (length (after .days)) s) members back)
-report-back near (not-begun number line h in-text) = refused-back number line h (omega arith)
+report-back near (no-period number line h in-text) = refused-back number line h (omega arith)
 
 -- the number of members, off the text's first line
 told : (fs : List (List ℕ)) → valueFrom 0 (getD fs 1 []) ≡ getD (map (valueFrom 0) (drop 1 fs)) 0 0

@@ -6,7 +6,7 @@ use mathlib.Core.List.{List, [], _∷_, _++_, map, flatMap}
 use mathlib.Core.Option.{some}
 use Prim.Native.Nat.{ℕ, _+_, _*_, _^_, _≤_, _<_}
 use lib.Dec.{eqb, ltb}
-use lib.ListN.{length, getD, drop}
+use lib.ListN.{length, getD, take, drop}
 use Rattle.numbers.specs.Lists.{range, any, Every}
 use Rattle.numbers.specs.Sums.{Σ}
 use Rattle.methodology.specs.declared.Refusal.the-variants.{Clear}
@@ -76,9 +76,9 @@ membersIn text = getD (lineOf (getD (split LF text) 0 []) .numbers) 0 0
 abbrev pub Other : Line → Type 0
 Other l = (same (l .word) (bytes "day") || same (l .word) (bytes "daily") || same (l .word) (bytes "total")) ≡ false
 
--- A fund line with this D, or no fund line.
+-- a fund line whose first number is this D, or no fund line
 abbrev pub Counts : (D : ℕ) → Line → Type 0
-Counts D l = same (l .word) (bytes "fund") ≡ true → getD (l .numbers) 0 0 ≡ D
+Counts D l = same (l .word) (bytes "fund") ≡ true → take 1 (l .numbers) ≡ D ∷ []
 
 -- A report of n members, or what is left of it after `before` accepted days, is its accepted days, each of which adds up, and after them
 -- other lines. Where there is a fund its D is the number of the days, so that none is left out.

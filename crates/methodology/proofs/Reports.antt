@@ -1,6 +1,6 @@
 -- What a report is made of: the lines of accepted days, and after them of what ends it, an accepted closing or a refusal. Line by line, the
--- register goes along. So what holds of these lines holds of every report.
-use mathlib.Core.Path.{_≡_, refl, ap, subst}
+-- register goes along, open since the opening, so that no closing is refused. What holds of these lines holds of every report.
+use mathlib.Core.Path.{_≡_, refl, ap, subst, _∙_}
 use mathlib.Core.Bool.{Bool, true, false, not, _&&_, _||_}
 use mathlib.Core.List.{List, [], _∷_, _++_}
 use mathlib.Core.Option.{Option, none, some}
@@ -9,18 +9,19 @@ use native.Mathlib.Omega.{arith}
 use lib.Dec.{ltb, eqb}
 use lib.ListN.{length, getD, take, drop, length-take}
 use lib.Seq.{getD-drop}
-use borrow.Author.Tests.{ltb-true, ltb-false}
+use borrow.Author.Tests.{eq-eqb, ltb-true, ltb-false}
 use Rattle.numbers.specs.Lists.{any}
 use Rattle.numbers.proofs.Tests.{neither}
+use Rattle.methodology.specs.declared.Status.the-variants.{Open}
 use Rattle.methodology.specs.declared.Refusal.{Refusal}
 use Rattle.methodology.specs.declared.Refusal.the-variants.{Clear, Row, RowAt}
 use Rattle.methodology.specs.declared.Opening.{Opening}
 use Rattle.methodology.specs.Account.{withGroups, DayInput}
-use Rattle.methodology.specs.Refusals.{outside, nOutside, kOutside, countOutside}
-use Rattle.methodology.specs.Register.{Call, Register, start, refusal, step, returned, written}
+use Rattle.methodology.specs.Refusals.{row_when_else_, outside, nOutside, kOutside, countOutside, closingRefusal}
+use Rattle.methodology.specs.Register.{Call, Register, start, refusal, accept, step, returned, written}
 use Rattle.methodology.specs.Text.{LF, bytes, same, onto, split, fields, isDigit, valueFrom, numberOf, also, everyField, numbersAfter, badBytes, AccountLine, refusedLine, dayLines, fundLines, Expected, period, member, day, account, afterEnd, Read, bad, readPeriod, opened, readMember, readDay, sized, withAccount, readAccount, readLine, closed, atEnd, followedBy, reportFrom, reportOf}
 use Rattle.methodology.specs.Lines.{indexOf, before}
-use Rattle.methodology.proofs.Passed.{inside, by-test}
+use Rattle.methodology.proofs.Passed.{step-clear, inside, by-test}
 use Rattle.methodology.proofs.RowLimits.{occurs, RowFew, refusal-few}
 use Rattle.methodology.proofs.Splits.{split-first}
 use Rattle.methodology.proofs.Cut.{before-same, too-long, cut}
@@ -49,9 +50,18 @@ pub data Rest (last : ℕ) : Register → List ℕ → Type 0 where
 
 -- a report of n members: it is refused before a period is open, or goes on from there
 pub data Report (n last : ℕ) : List ℕ → Type 0 where
-  begun : {s : List ℕ} (o : Opening) → o .n ≡ n → o .n ≤ 32 → refusal start (Call.opening o) ≡ Clear
+  a-period : {s : List ℕ} (o : Opening) → o .n ≡ n → o .n ≤ 32 → refusal start (Call.opening o) ≡ Clear
       → Rest last (step start (Call.opening o)) s → Report n last s
-  not-begun : (number line : ℕ) → occurs number ≡ true → line ≤ last → Report n last (refusedLine number line)
+  no-period : (number line : ℕ) → occurs number ≡ true → line ≤ last → Report n last (refusedLine number line)
+
+-- the status that an accepted call leaves
+status-is : (g : Register) (c : Call) → refusal g c ≡ Clear → step g c .status ≡ accept g c .status
+status-is g c e = ap (λ (x : Register). x .status) (step-clear g c e)
+
+-- the closing of a text is not refused: its period is open, and its output 3n long
+pub closing-clear : (g : Register) → g .status ≡ Open → refusal g (closingCall g) ≡ Clear
+unfolding refusal closingRefusal row_when_else_
+closing-clear g is = rw (is, eq-eqb (3 * g .held .n) (3 * g .held .n) refl)
 
 -- a line's first number, where it is read
 abbrev FirstIs : (n : ℕ) → Option (List ℕ) → Type 0
@@ -64,9 +74,9 @@ module _ (n last : ℕ) where
   abbrev Ready : Expected → Type 0
   Ready period = ⊥
   Ready (member o) = (o .n ≡ n) × (o .n ≤ 32)
-  Ready (day g) = Unit {0}
-  Ready (account g d at count used) = at + 257 ≤ last
-  Ready (afterEnd g at) = at ≤ last
+  Ready (day g) = g .status ≡ Open
+  Ready (account g d at count used) = (g .status ≡ Open) × (at + 257 ≤ last)
+  Ready (afterEnd g at) = (g .status ≡ Open) × (at ≤ last)
 
   abbrev From : Expected → List ℕ → Type 0
   From period s = Report n last s
@@ -79,8 +89,8 @@ module _ (n last : ℕ) where
   Goes rest = (e : Expected) → Ready e → From e (rest e)
 
   refused-from : (e : Expected) (number line : ℕ) → occurs number ≡ true → line ≤ last → From e (refusedLine number line)
-  refused-from period number line h k = not-begun number line h k
-  refused-from (member o) number line h k = not-begun number line h k
+  refused-from period number line h k = no-period number line h k
+  refused-from (member o) number line h k = no-period number line h k
   refused-from (day g) number line h k = a-refusal number line h k
   refused-from (account g d at count used) number line h k = a-refusal number line h k
   refused-from (afterEnd g at) number line h k = a-refusal number line h k
@@ -97,10 +107,10 @@ module _ (n last : ℕ) where
     line-9 e = refused-from e 9 i refl (omega arith)
 
     by-opened : (x : Refusal) (o : Opening) → refusal start (Call.opening o) ≡ x → RowFew x → Ready (member o) → Report n last (followedBy (opened x o) rest)
-    unfolding opened followedBy
-    by-opened Clear o e few r = begun o (r .0) (r .1) e (goes (day (step start (Call.opening o))) tt)
-    by-opened (Row number) o e few r = not-begun number 1 few (omega arith)
-    by-opened (RowAt number index) o e few r = not-begun number 1 (few .0) (omega arith)
+    unfolding opened followedBy accept
+    by-opened Clear o e few r = a-period o (r .0) (r .1) e (goes (day (step start (Call.opening o))) (status-is start (Call.opening o) e))
+    by-opened (Row number) o e few r = no-period number 1 few (omega arith)
+    by-opened (RowAt number index) o e few r = no-period number 1 (few .0) (omega arith)
 
     by-member : (o : Opening) (read : Option (List ℕ)) → Ready (member o) → Prints (member o) (readMember o i read)
     unfolding readMember followedBy
@@ -113,19 +123,20 @@ module _ (n last : ℕ) where
         (λ e. by-test P (eqb (length (o′ .groups)) (o .n)) _ _ (λ all. last-one) (λ more. goes (member o′) r))
         (λ e. line-9 (member o))
 
-    by-day : (g : Register) (read : Option (List ℕ)) → Prints (day g) (readDay g i read)
+    by-day : (g : Register) (read : Option (List ℕ)) → Ready (day g) → Prints (day g) (readDay g i read)
     unfolding readDay followedBy
-    by-day g none = line-9 (day g)
-    by-day g (some ns) =
-        by-test (Prints (day g)) (countOutside (getD ns 1 0)) _ _ (λ e. a-refusal 4 i refl (omega arith)) (λ e. goes (account g _ i _ 0) near)
+    by-day g none r = line-9 (day g)
+    by-day g (some ns) r =
+        by-test (Prints (day g)) (countOutside (getD ns 1 0)) _ _ (λ e. a-refusal 4 i refl (omega arith)) (λ e. goes (account g _ i _ 0) (r, near))
 
-    by-sized : (x : Refusal) (g : Register) (d : DayInput) (at : ℕ) → refusal g (dayCall g d) ≡ x → RowFew x → at + 257 ≤ last → Prints (day g) (sized x g d at)
-    unfolding sized followedBy
-    by-sized Clear g d at e few h = a-day d e (goes (day (step g (dayCall g d))) tt)
-    by-sized (Row number) g d at e few h = a-refusal number at few (omega arith)
-    by-sized (RowAt number index) g d at e few h = a-refusal number (at + 1 + index) (few .0) (omega (arith, few .1))
+    by-sized : (x : Refusal) (g : Register) (d : DayInput) (at : ℕ) → refusal g (dayCall g d) ≡ x → RowFew x → Ready (account g d at 0 0)
+        → Prints (day g) (sized x g d at)
+    unfolding sized followedBy accept
+    by-sized Clear g d at e few (r, h) = a-day d e (goes (day (step g (dayCall g d))) (status-is g (dayCall g d) e ∙ r))
+    by-sized (Row number) g d at e few (r, h) = a-refusal number at few (omega arith)
+    by-sized (RowAt number index) g d at e few (r, h) = a-refusal number (at + 1 + index) (few .0) (omega (arith, few .1))
 
-    by-account : (g : Register) (d : DayInput) (at count used : ℕ) (read : Option AccountLine) → at + 257 ≤ last
+    by-account : (g : Register) (d : DayInput) (at count used : ℕ) (read : Option AccountLine) → Ready (account g d at count used)
         → Prints (day g) (readAccount g d at count used i read)
     unfolding readAccount followedBy
     by-account g d at count used none h = line-9 (day g)
@@ -138,7 +149,7 @@ module _ (n last : ℕ) where
     unfolding readLine followedBy
     by-line period l r = absurd r
     by-line (member o) l r = by-member o _ r
-    by-line (day g) l r = by-test (Prints (day g)) (same l (bytes "end")) _ _ (λ e. goes (afterEnd g i) (omega arith)) (λ e. by-day g _)
+    by-line (day g) l r = by-test (Prints (day g)) (same l (bytes "end")) _ _ (λ e. goes (afterEnd g i) (r, omega arith)) (λ e. by-day g _ r)
     by-line (account g d at count used) l r =
         let now = used + length l + 1 in
         by-test (Prints (day g)) (ltb 65536 now) _ _ (λ e. line-9 (day g)) (λ e. by-account g d at count now _ r)
@@ -148,25 +159,23 @@ module _ (n last : ℕ) where
     unfolding readPeriod followedBy
     by-period none is = line-9 period
     by-period (some ns) is =
-        by-test (Prints period) (nOutside (getD ns 0 0) || kOutside (getD ns 1 0)) _ _ (λ e. not-begun 1 i refl (omega arith))
+        by-test (Prints period) (nOutside (getD ns 0 0) || kOutside (getD ns 1 0)) _ _ (λ e. no-period 1 i refl (omega arith))
         (λ e. goes (member _) (is, inside _ _ (getD ns 0 0) (neither (nOutside (getD ns 0 0)) _ e .0) .1))
 
   -- ---- the end
 
-  by-closed : (x : Refusal) (g : Register) (at : ℕ) → refusal g (closingCall g) ≡ x → RowFew x → at ≤ last → Rest last g (closed x g at)
+  by-closed : (g : Register) (at : ℕ) → g .status ≡ Open → Rest last g (closed (refusal g (closingCall g)) g at)
   unfolding closed
-  by-closed Clear g at e few h = a-fund e
-  by-closed (Row number) g at e few h = a-refusal number at few h
-  by-closed (RowAt number index) g at e few h = a-refusal number at (few .0) h
+  by-closed g at r = rw (closing-clear g r) (a-fund (closing-clear g r))
 
   by-end : (e : Expected) (i : ℕ) (l : List ℕ) → i ≤ last → Ready e → From e (atEnd e i l)
   unfolding atEnd
   by-end period i l h r = absurd r
-  by-end (member o) i l h r = not-begun 9 i refl h
+  by-end (member o) i l h r = no-period 9 i refl h
   by-end (day g) i l h r = a-refusal 9 i refl h
   by-end (account g d at count used) i l h r = a-refusal 9 i refl h
   by-end (afterEnd g at) i l h r =
-      by-test (Rest last g) (same l []) _ _ (λ e. by-closed _ g at refl (refusal-few g (closingCall g)) r) (λ e. a-refusal 9 i refl h)
+      by-test (Rest last g) (same l []) _ _ (λ e. by-closed g at (r .0)) (λ e. a-refusal 9 i refl h)
 
   -- ---- the lines from one on
 
@@ -223,7 +232,7 @@ membersTold text = toldBy (getD (split LF text) 0 [])
 first-line : (l : List ℕ) (ls : List (List ℕ)) → length ls + 258 ≤ lastLine
     → Report (toldBy l) lastLine (reportFrom 1 (l ∷ ls) period)
 unfolding reportFrom atEnd readLine
-first-line l [] near = not-begun 9 1 refl (omega arith)
+first-line l [] near = no-period 9 1 refl (omega arith)
 first-line l (m ∷ ls) near =
     let n = toldBy l in
     let goes = from-line n lastLine 2 m ls (omega arith) in
@@ -264,4 +273,4 @@ reports text = by (ltb enough (length text)) (ltb (indexOf LF text) enough) refl
         rw (split-first LF (take enough text), split-first LF text) same-line in
         subst (λ (l : List ℕ). Report (toldBy l) lastLine (reportOf text)) first whole
     by true false p q =
-        rw (too-long 1 text period (omega (arith, ltb-false (indexOf LF text) enough q))) (not-begun 9 1 refl (omega arith))
+        rw (too-long 1 text period (omega (arith, ltb-false (indexOf LF text) enough q))) (no-period 9 1 refl (omega arith))

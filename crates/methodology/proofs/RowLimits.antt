@@ -1,30 +1,30 @@
 -- What a refusal table can say: a row's number is one that occurs, and an index is at most 256, since rows 5 and 6 come after row 4.
 use mathlib.Core.Path.{_≡_, refl}
-use mathlib.Core.Bool.{Bool, true, false, not, _&&_, cond}
+use mathlib.Core.Bool.{Bool, true, false, not, _||_, cond}
 use mathlib.Core.List.{List, [], _∷_}
 use Prim.Native.Nat.{ℕ, suc, _+_, _*_, _≤_}
 use native.Mathlib.Omega.{arith}
-use lib.Dec.{eqb, leb}
+use lib.Dec.{eqb}
 use lib.ListN.{length}
-use borrow.Author.Tests.{leb-true}
+use borrow.Author.Tests.{not-true}
 use Rattle.numbers.proofs.Lists.{first-le, table-length}
-use Rattle.numbers.proofs.Tests.{both, neither}
+use Rattle.numbers.proofs.Tests.{neither}
 use Rattle.methodology.specs.declared.Heading.{Heading}
 use Rattle.methodology.specs.declared.Status.{Status}
 use Rattle.methodology.specs.declared.Refusal.{Refusal}
 use Rattle.methodology.specs.declared.Refusal.the-variants.{Clear, Row, RowAt}
 use Rattle.methodology.specs.declared.Opening.{Opening}
 use Rattle.methodology.specs.Account.{DayInput, accounts, nobody}
-use Rattle.methodology.specs.Refusals.{row_when_else_, row_at_when_else_, rows-of_else_, countOutside, openingRefusal, badInput, badHeading, firstBadHeading, badAmount, accountRows, dayRows, beforeFigures, dayRefusal, closingRefusal}
+use Rattle.methodology.specs.Refusals.{row_when_else_, row_at_when_else_, rows-of_else_, outside, countOutside, openingRefusal, badInput, badHeading, firstBadHeading, badAmount, accountRows, dayRows, beforeFigures, dayRefusal, closingRefusal}
 use Rattle.methodology.specs.Register.{Call, Register, lastNumber, refusal}
 use Rattle.methodology.proofs.Passed.{inside}
 
--- the numbers that occur: those of document 01's table but for 8, which document 02's Change 2 takes away
+-- the numbers that occur: 1 to 9, as document 01's table has them, but for 8, which document 02's Change 2 takes away
 abbrev pub occurs : (number : ℕ) → Bool
-occurs number = leb number 9 && not (eqb number 8)
+occurs number = not (outside 1 9 number || eqb number 8)
 
 pub at-most-9 : (number : ℕ) → occurs number ≡ true → number ≤ 9
-at-most-9 number h = leb-true number 9 (both (leb number 9) _ h .0)
+at-most-9 number h = inside 1 9 number (neither (outside 1 9 number) (eqb number 8) (not-true _ h) .0) .1
 
 abbrev pub RowFew : Refusal → Type 0
 RowFew Clear = Unit {0}

@@ -13,7 +13,7 @@ use Rattle.methodology.specs.Register.{Call, Register, start, lastNumber
 use Rattle.methodology.specs.Text.{LF, tab, bytes, digits, decimal, printed, refusedLine, stretch, rows, totals, dayLines, fundLines, reportOf}
 use Rattle.methodology.proofs.Passed.{step-clear, by-test}
 use Rattle.methodology.proofs.Enough.{rises}
-use Rattle.methodology.proofs.Reports.{dayCall, closingCall, sizedLines, Rest, a-day, a-fund, a-refusal, Report, begun, not-begun, reports}
+use Rattle.methodology.proofs.Reports.{dayCall, closingCall, sizedLines, Rest, a-day, a-fund, a-refusal, Report, a-period, no-period, reports}
 
 -- ---- the report's lines
 
@@ -97,10 +97,10 @@ rest-short few (a-refusal number line h k) = omega (arith, refused-short number 
 
 report-short : {n last : ℕ} {s : List ℕ} → Report n last s → length s ≤ 147456
 unfolding accept
-report-short (begun o is few clear rest) =
+report-short (a-period o is few clear rest) =
     let members : step start (Call.opening o) .held .n ≡ o .n = ap (λ (x : Register). x .held .n) (step-clear start (Call.opening o) clear) in
     omega (arith, rest-short (omega arith) rest)
-report-short (not-begun number line h k) = omega (arith, refused-short number line)
+report-short (no-period number line h k) = omega (arith, refused-short number line)
 
 pub short : (text : List ℕ) → length (reportOf text) ≤ 147456
 short text = report-short (reports text)

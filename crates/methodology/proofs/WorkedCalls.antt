@@ -1,7 +1,7 @@
 -- Calls worked by the register: document 01's printed month; M on each of three days; months that have not begun; a period whose calls meet
 -- every condition of the refusal table from both sides, and every pair of its order of precedence. One table, one theorem: each answer, and
--- each number left in a buffer, is the one due. By computation. The figures were worked out from document 01 by a recalculation of its own.
--- The largest periods are in WorkedLimits.antt.
+-- each number left in a buffer, is the one due. By computation. The figures were worked out from the documents by a recalculation of its
+-- own. The largest periods are in WorkedLimits.antt.
 use mathlib.Core.Path.{_≡_, refl}
 use mathlib.Core.List.{List, [], _∷_, _++_, map}
 use Prim.Native.Nat.{ℕ, suc, _*_}
@@ -469,6 +469,16 @@ while-closed =
     ∷ closing 3 gets accepted (1 ∷ 3 ∷ 50000000 ∷ []) writing (4 ∷ 50000000 ∷ 100000000 ∷ [])
     ∷ []
 
+-- a month whose one day has a T above 0 and Max EUL 0: M is 0 as without days, and D is 1
+abbrev hedged-alone : List Exchange
+hedged-alone =
+    brings 3 2 (4 ∷ 4 ∷ 0 ∷ []) gets accepted []
+    ∷ on 6 hedged gets accepted (10 ∷ 0 ∷ []) writing (10 ∷ 1000000000000 ∷ 0 ∷ 0 ∷ 0 ∷ replicate 10 0)
+    ∷ closing 9
+    gets accepted (1 ∷ 0 ∷ 150000000 ∷ [])
+    writing (0 ∷ 50000000 ∷ 100000000 ∷ 0 ∷ 50000000 ∷ 100000000 ∷ 0 ∷ 50000000 ∷ 100000000 ∷ [])
+    ∷ []
+
 -- ---- the limits
 
 -- n, k and groups at their last good values: each a period of its own
@@ -557,6 +567,7 @@ lists =
     ∷ three-days least middling worst
     ∷ not-begun
     ∷ not-begun-again
+    ∷ hedged-alone
     ∷ (while-fresh ++ (while-open ++ while-closed))
     ∷ five-days-in five-days
     ∷ five-days-in (backwards five-days)
@@ -571,8 +582,8 @@ pub worked-calls : map (played start) lists ≡ lists
 unfolding lists played computed
 worked-calls = refl
 
--- What the register holds at the start and after an opening, a day and a closing. No answer tells fresh from closed, or has to do with what
--- is held before the first opening; document 01 says it all the same.
+-- What the register holds at the start and after an opening, a day and a closing, with a day and without. No answer tells fresh from closed,
+-- or has to do with what is held before the first opening; document 01 says it all the same.
 abbrev held-two : Opening
 held-two = opening-of 2 1 (0 ∷ 0 ∷ [])
 
@@ -587,5 +598,6 @@ pub registers :
     × (after-opening ≡ record { status = Open; held = held-two; days = [] })
     × (map (λ d. d .number) (after-day .days) ≡ 5 ∷ [])
     × (step after-day (closing 6) ≡ record { status = Closed; held = held-two; days = after-day .days })
+    × (step after-opening (closing 6) ≡ record { status = Closed; held = held-two; days = [] })
 unfolding computed
-registers = (refl, refl, refl, refl)
+registers = (refl, refl, refl, refl, refl)

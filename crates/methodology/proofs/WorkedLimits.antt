@@ -1,5 +1,5 @@
 -- Calls at the limits of size, with what they must answer: 32 members, 16 scenarios, 256 accounts, group 32, day 31. By
--- computation; the figures are those of a recalculation of its own from document 01.
+-- computation; the figures are those of a recalculation of its own from the documents.
 use mathlib.Core.Path.{_≡_, refl}
 use mathlib.Core.List.{List, [], _∷_, _++_, map, flatMap}
 use Prim.Native.Nat.{_-_}

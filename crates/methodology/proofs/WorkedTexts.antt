@@ -1,6 +1,6 @@
 -- Worked texts with the reports that they must give: document 01's printed month, "with these lines added" as document 02's Change 1 has it,
--- texts refused by every row that a text can meet, and months with groups, clients and several days. The reports were worked out from the
--- documents by recalculations of others; the theorem computes them.
+-- texts refused by every row that a text can meet, and months with groups, clients, several days or none. The reports were worked out from
+-- the documents by recalculations of others; the theorem computes them.
 use mathlib.Core.Path.{_≡_, refl}
 use mathlib.Core.List.{List, [], _∷_, map}
 use mathlib.Core.Option.{some}
@@ -64,8 +64,14 @@ texts =
     ∷ ("period\t2\t1\nmember\t1\t0\nmember\t2\t0\nday\t3\t2\nacct\t1\t0\tH\t390000000\t0\t0\t0\nacct\t2\t0\tH\t10000000\t0\t0\t0\nend\nend\n" gives "day\t3\t400000000\t390000000\ndaily\t1\t390000000\t975000000000\t38025000000\t41827500000\t83655000000\ndaily\t2\t10000000\t25000000000\t975000000\t1072500000\t2145000000\ntotal\t400000000\t1000000000000\t39000000000\t42900000000\t85800000000\nrefused\t9\t8\n")
     -- lf after end, and no day
     ∷ ("period\t1\t1\nmember\t1\t0\nend\n\n" gives "refused\t9\t4\n")
+    -- byte after end, and no day
+    ∷ ("period\t1\t1\nmember\t1\t0\nend\nx" gives "refused\t9\t4\n")
+    -- end without lf, and no day
+    ∷ ("period\t1\t1\nmember\t1\t0\nend" gives "refused\t9\t3\n")
     -- no day
     ∷ ("period\t1\t1\nmember\t1\t0\nend\n" gives "fund\t0\t0\t50000000\ncontribution\t1\t0\t50000000\t100000000\n")
+    -- one day, of Max EUL 0
+    ∷ ("period\t1\t2\nmember\t1\t0\nday\t3\t2\nacct\t1\t0\tH\t100\t110\t0\t0\t100\nacct\t1\t1\tU\t20\t0\t0\t20\t0\nend\n" gives "day\t3\t20\t0\ndaily\t1\t20\t1000000000000\t0\t0\t0\ntotal\t20\t1000000000000\t0\t0\t0\nfund\t1\t0\t50000000\ncontribution\t1\t0\t50000000\t100000000\n")
     -- second period
     ∷ ("period\t2\t1\nmember\t1\t0\nmember\t2\t0\nday\t3\t2\nacct\t1\t0\tH\t390000000\t0\t0\t0\nacct\t2\t0\tH\t10000000\t0\t0\t0\nperiod\t2\t1\n" gives "day\t3\t400000000\t390000000\ndaily\t1\t390000000\t975000000000\t38025000000\t41827500000\t83655000000\ndaily\t2\t10000000\t25000000000\t975000000\t1072500000\t2145000000\ntotal\t400000000\t1000000000000\t39000000000\t42900000000\t85800000000\nrefused\t9\t7\n")
     -- empty line

@@ -20,7 +20,7 @@ pub record KeptDay : Type 0 where
   pub accounts : List Account
 
 -- M. "M is the highest Max EUL among the days accepted since the last accepted opening, D their number": D is the length of the list. With
--- no day both are 0; the greatest of none is.
+-- no day both are 0, as the greatest of none is.
 unfoldable pub highest : Opening → List KeptDay → ℕ
 highest o days = greatest days (λ d. maxEul o (d .accounts))
 

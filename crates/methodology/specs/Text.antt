@@ -270,8 +270,8 @@ readLine (account g d at count used) i l =
     cond (ltb 65536 now) (bad i) (readAccount g d at count now i (accountOf (g .held .k) l))
 readLine (afterEnd g at) i l = bad i
 
--- The closing call, made at the end line. A refusal would name that line, but the period is open and the output 3n long: since Change 2 no
--- row is left that it could meet.
+-- The closing call, made at the end line, which a refusal would name. Since Change 2 there is none: the period is open, and the output 3n
+-- long (`closing-clear` in proofs/Reports.antt).
 unfoldable pub closed : Refusal → Register → (line : ℕ) → List ℕ
 closed Clear g i =
     let call = Call.closing (3 * g .held .n) in

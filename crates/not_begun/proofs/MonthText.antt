@@ -1,16 +1,16 @@
--- The report of period, members and end. Each line reads as the numbers that were printed, so the opening is the one that the text was made
--- of; the closing comes next.
+-- The report of period, members, end and what may follow. Each line reads as the numbers that were printed, so the opening is the one that the
+-- text was made of; the closing comes next, or 9.
 use mathlib.Core.Path.{_≡_, refl, sym, ap, _∙_}
 use mathlib.Core.Bool.{true, false, cond}
 use mathlib.Core.List.{List, [], _∷_, _++_, flatMap, append-assoc, append-nil}
 use mathlib.Core.Option.{some}
-use Prim.Native.Nat.{ℕ, zero, suc, _+_, _-_, _*_, _^_, _≤_, _<_}
+use Prim.Native.Nat.{ℕ, zero, suc, _+_, _-_, _^_, _≤_, _<_}
 use native.Mathlib.Omega.{arith}
 use lib.Dec.{eqb, ltb}
 use lib.ListN.{length, getD, take, length-append}
 use lib.Seq.{take-suc, take-all, length-take-le}
 use borrow.Author.Tests.{eq-eqb, ne-eqb, le-ltb}
-use Rattle.numbers.specs.Lists.{range, any, firstWhere, Every}
+use Rattle.numbers.specs.Lists.{range, any, Every}
 use Rattle.numbers.proofs.Lists.{none-any, every-mem, every-append, every-flatMap, every-weaken}
 use Rattle.methodology.specs.declared.Refusal.the-variants.{Clear}
 use Rattle.methodology.specs.declared.Opening.{Opening}
@@ -18,8 +18,8 @@ use Rattle.methodology.specs.Account.{withGroups, members}
 use Rattle.methodology.specs.Day.{groupNumber}
 use Rattle.methodology.specs.Refusals.{row_when_else_, badOpening, openingRefusal}
 use Rattle.methodology.specs.Register.{Call, Register, start, refusal, step}
-use Rattle.methodology.specs.Text.{tab, LF, bytes, same, split, decimal, everyField, also, badBytes, numbersAfter, printed, Expected, period, member, day, readPeriod, Read, goesOn, opened, readMember, readLine, closed, followedBy, reportFrom, reportOf}
-use Rattle.methodology.proofs.Splits.{split-first, end-line, nothing-after}
+use Rattle.methodology.specs.Text.{tab, LF, bytes, same, split, decimal, everyField, also, badBytes, numbersAfter, printed, Expected, period, member, day, afterEnd, readPeriod, Read, goesOn, opened, readMember, readLine, followedBy, reportFrom, reportOf}
+use Rattle.methodology.proofs.Splits.{split-first}
 use Rattle.methodology.proofs.Short.{printed-short}
 use Rattle.validation.specs.Passing.{Opened}
 use Rattle.validation.proofs.OpeningPasses.{opening-leaves}
@@ -67,6 +67,10 @@ begins-member : Begins (bytes "member")
 unfolding bytes any same
 begins-member = record { word = (refl, refl); short = omega arith; ascii = (refl, (refl, (refl, (refl, (refl, (refl, tt)))))); alike = refl }
 
+begins-end : Begins (bytes "end")
+unfolding bytes any same
+begins-end = record { word = (refl, refl); short = omega arith; ascii = (refl, (refl, (refl, tt))); alike = refl }
+
 -- ---- the text
 
 module _ (o : Opening) (good : badOpening o ≡ false) where
@@ -77,8 +81,8 @@ module _ (o : Opening) (good : badOpening o ≡ false) where
   abbrev opened-by : Register
   opened-by = step start (Call.opening o)
 
-  abbrev end : List ℕ
-  end = printed (bytes "end") []
+  abbrev periodLine : List ℕ
+  periodLine = printed (bytes "period") (o .n ∷ o .k ∷ [])
 
   abbrev memberLine : (m : ℕ) → List ℕ
   memberLine m = printed (bytes "member") (m ∷ groupNumber o m ∷ [])
@@ -117,19 +121,19 @@ module _ (o : Opening) (good : badOpening o ≡ false) where
       ∙ rw (read, one-more count h, counted (suc count) (omega arith), eq-eqb (suc count) (suc count) refl)
 
   -- from there on, where `left` more are due after it
-  from-member : (left count i : ℕ) → count + suc left ≡ o .n
+  from-member : (left count i : ℕ) (end : List ℕ) → count + suc left ≡ o .n
       → reportFrom i (split LF (flatMap memberLine (range (suc count) (suc left)) ++ end)) (member (upTo count))
       ≡ reportFrom (i + suc left) (split LF end) (day opened-by)
   unfolding flatMap range followedBy opened
-  from-member zero count i h =
+  from-member zero count i end h =
       rw (append-nil (memberLine (suc count)))
       (member-read count i end (omega arith) ∙ rw (eq-eqb (suc count) (o .n) (omega arith), all-groups (suc count) (omega arith), clear))
-  from-member (suc left) count i h =
+  from-member (suc left) count i end h =
       let more = flatMap memberLine (range (suc (suc count)) (suc left)) in
       rw (append-assoc (memberLine (suc count)) more end)
       (member-read count i (more ++ end) (omega arith)
       ∙ rw (ne-eqb (suc count) (o .n) (λ e. omega (arith, e)))
-      (from-member left (suc count) (i + 1) (omega arith) ∙ ap (λ (j : ℕ). reportFrom j (split LF end) (day opened-by)) (omega arith)))
+      (from-member left (suc count) (i + 1) end (omega arith) ∙ ap (λ (j : ℕ). reportFrom j (split LF end) (day opened-by)) (omega arith)))
 
   period-read : readLine period 1 (lineWith (bytes "period") (o .n ∷ o .k ∷ [])) ≡ goesOn [] (member (upTo 0))
   unfolding readLine readPeriod
@@ -138,17 +142,24 @@ module _ (o : Opening) (good : badOpening o ≡ false) where
       let read = reads-two (bytes "period") (o .n) (o .k) begins-period (omega (arith, l .members-few)) (omega (arith, l .scenarios-few)) in
       rw (read, le-ltb (o .n) 1 (l .members-some), le-ltb 32 (o .n) (l .members-few), le-ltb (o .k) 1 (l .scenarios-some), le-ltb 16 (o .k) (l .scenarios-few))
 
-  -- the end line, and nothing after it
-  at-end : (i : ℕ) (g : Register) → reportFrom i (split LF end) (day g) ≡ closed (refusal g (Call.closing (3 * g .held .n))) g i
-  unfolding printed flatMap bytes same firstWhere
-  at-end i g = end-line g i end refl ∙ nothing-after g i (i + 1)
+  abbrev endLine : List ℕ
+  endLine = printed (bytes "end") []
 
-  -- so the report is what the closing prints
-  pub report-closes : let g = step start (Call.opening o) in reportOf (textOf o) ≡ closed (refusal g (Call.closing (3 * g .held .n))) g (2 + o .n)
+  end-read : (i : ℕ) (g : Register) (rest : List ℕ) → reportFrom i (split LF (endLine ++ rest)) (day g) ≡ reportFrom (i + 1) (split LF rest) (afterEnd g i)
+  unfolding readLine followedBy flatMap bytes same
+  end-read i g rest = line-read i (bytes "end") [] rest (day g) begins-end (omega arith)
+
+  -- up to the end line: what follows it decides
+  pub to-the-end : (rest : List ℕ) → reportOf (textOf o ++ rest) ≡ reportFrom (o .n + 3) (split LF rest) (afterEnd (step start (Call.opening o)) (o .n + 2))
   unfolding reportOf followedBy
-  report-closes =
+  to-the-end rest =
       let all : suc (o .n - 1) ≡ o .n = omega (arith, limits .members-some) in
-      line-read 1 (bytes "period") (o .n ∷ o .k ∷ []) _ period begins-period (omega arith)
-      ∙ ap (λ (r : Read). followedBy r (reportFrom 2 (split LF (flatMap memberLine (members (o .n)) ++ end)))) period-read
-      ∙ rw all at (from-member (o .n - 1) 0 2 (omega arith))
-      ∙ at-end (2 + o .n) opened-by
+      let lines = flatMap memberLine (members (o .n)) in
+      let text : textOf o ++ rest ≡ periodLine ++ (lines ++ (endLine ++ rest)) = rw (append-assoc periodLine (lines ++ endLine) rest, append-assoc lines endLine rest) in
+      ap reportOf text
+      ∙ line-read 1 (bytes "period") (o .n ∷ o .k ∷ []) (lines ++ (endLine ++ rest)) period begins-period (omega arith)
+      ∙ ap (λ (r : Read). followedBy r (reportFrom 2 (split LF (lines ++ (endLine ++ rest))))) period-read
+      ∙ rw all at (from-member (o .n - 1) 0 2 (endLine ++ rest) (omega arith))
+      ∙ end-read (2 + o .n) opened-by rest
+      ∙ ap (λ (i : ℕ). reportFrom (i + 1) (split LF rest) (afterEnd opened-by i)) (omega arith)
+      ∙ ap (λ (i : ℕ). reportFrom i (split LF rest) (afterEnd opened-by (o .n + 2))) (omega arith)

@@ -17,18 +17,18 @@ use Rattle.demand3.proofs.Demand3.{madeOf, demand-3}
 use Rattle.as_printed.specs.AsPrinted.{linesOf}
 use Rattle.as_printed.proofs.DayShown.{Told}
 use Rattle.as_printed.proofs.EveryReport.{refusals-told}
-use Rattle.not_begun.specs.NeverOccurs.{Meets, Refuses, AnsweredBy, Tells, NeverOccurs}
+use Rattle.not_begun.specs.NeverOccurs.{IsRow, IsRefusal, AnsweredBy, Tells, NeverOccurs}
 
 module _ (number : ℕ) (gone : occurs number ≡ false) where
   other : {r : ℕ} → occurs r ≡ true → ¬ (r ≡ number)
   other h is = true≢false (sym h ∙ ap occurs is ∙ gone)
 
-  not-met : (x : Refusal) → RowFew x → ¬ Meets number x
+  not-met : (x : Refusal) → RowFew x → ¬ IsRow number x
   not-met Clear few h = h
   not-met (Row r) few h = other few h
   not-met (RowAt r index) few h = other (few .0) h
 
-  not-refused : (x : Refusal) (figures : List ℕ) → RowFew x → ¬ Refuses number (answerBy x figures)
+  not-refused : (x : Refusal) (figures : List ℕ) → RowFew x → ¬ IsRefusal number (answerBy x figures)
   not-refused Clear figures few h = h
   not-refused (Row r) figures few h = other few h
   not-refused (RowAt r index) figures few h = other (few .0) h
@@ -37,7 +37,7 @@ module _ (number : ℕ) (gone : occurs number ≡ false) where
   not-answered : (g : Register) (c : Made) → Agrees g c → ¬ AnsweredBy number c
   unfolding answer
   not-answered g c agreed =
-      subst (λ a. ¬ Refuses number a) (sym (agreed .answer)) (not-refused (refusal g (callOf (c .asked))) _ (refusal-few g (callOf (c .asked))))
+      subst (λ a. ¬ IsRefusal number a) (sym (agreed .answer)) (not-refused (refusal g (callOf (c .asked))) _ (refusal-few g (callOf (c .asked))))
 
   none-answered : (g : Register) (cs : List Made) → Holds g cs → Every (λ c. ¬ AnsweredBy number c) cs
   none-answered g [] h = tt

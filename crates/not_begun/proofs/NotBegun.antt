@@ -2,8 +2,8 @@
 -- of calls, by demand 3, and every text of period, members and end. With it the claim is whole: `not-begun`.
 use mathlib.Core.Path.{_≡_, refl, sym, ap, subst, _∙_}
 use mathlib.Core.Bool.{false}
-use mathlib.Core.List.{List, [], _∷_, _++_, flatMap, append-assoc}
-use Prim.Native.Nat.{ℕ, _-_, _*_}
+use mathlib.Core.List.{List, [], _∷_, _++_, map, map-append, flatMap, append-assoc, append-nil}
+use Prim.Native.Nat.{ℕ, _+_, _-_, _*_, _<_}
 use native.Mathlib.Omega.{arith}
 use lib.ListN.{length}
 use borrow.Author.Tests.{eq-eqb}
@@ -17,17 +17,19 @@ use Rattle.methodology.specs.Account.{members}
 use Rattle.methodology.specs.Contribution.{charge, raw, funded, unfunded, three, contributions, totalFunded}
 use Rattle.methodology.specs.Refusals.{row_when_else_, badOpening, closingRefusal}
 use Rattle.methodology.specs.Register.{Call, Register, start, refusal, accept, step, returned, written, accepted, answer, buffer}
-use Rattle.methodology.specs.Text.{bytes, printed, stretch, rows, fundLines, closed, reportOf}
+use Rattle.methodology.specs.Text.{bytes, printed, stretch, rows, refusedLine, fundLines, closed, reportOf}
 use Rattle.methodology.proofs.Passed.{step-clear}
+use Rattle.methodology.proofs.Splits.{nothing-after, something-after}
+use Rattle.methodology.proofs.Reports.{closing-clear}
 use Rattle.fund.proofs.RawCharge.{highest-none, raw-none, exact-none}
 use Rattle.period.specs.Reading.{answerOf}
 use Rattle.period.specs.Registered.{periodOf}
 use Rattle.period.specs.Calls.{freshPeriod}
 use Rattle.demand3.specs.Made.{Asked, Made, callOf, MadeOn}
 use Rattle.demand3.specs.Demand3.{Agrees, Holds, registerAfter}
-use Rattle.demand3.proofs.Demand3.{demand-3}
-use Rattle.not_begun.specs.NotBegun.{NoDay, AsNotBegun, closedAt, textOf, fundOf, NotBegun}
-use Rattle.not_begun.proofs.MonthText.{clear, report-closes}
+use Rattle.demand3.proofs.Demand3.{madeOf, demand-3}
+use Rattle.not_begun.specs.NotBegun.{NoAcceptedDay, AsNotBegun, closedFrom, ClosedAt, textOf, fundOf, NotBegun}
+use Rattle.not_begun.proofs.MonthText.{clear, to-the-end}
 
 -- ---- the figures
 
@@ -41,27 +43,27 @@ total-none o = Σ-const (members (o .n)) 50000000 ∙ ap (λ (n : ℕ). n * 5000
 
 -- ---- the register
 
-module _ (g : Register) (room : ℕ) (none : NoDay g) (long : room ≡ 3 * g .held .n) where
+module _ (g : Register) (room : ℕ) (none : NoAcceptedDay g) (long : room ≡ 3 * g .held .n) where
   abbrev call : Call
   call = Call.closing room
 
-  closing-clear : refusal g call ≡ Clear
+  accepted-then : refusal g call ≡ Clear
   unfolding refusal closingRefusal row_when_else_
-  closing-clear = rw (none .opened, eq-eqb room (3 * g .held .n) long)
+  accepted-then = rw (none .opened, eq-eqb room (3 * g .held .n) long)
 
-  leaves : step g call ≡ closedAt g
+  leaves : step g call ≡ closedFrom g
   unfolding accept
-  leaves = step-clear g call closing-clear ∙ rw (none .none)
+  leaves = step-clear g call accepted-then ∙ rw (none .none)
 
   says : answer g call ≡ accepted (0 ∷ 0 ∷ g .held .n * 50000000 ∷ [])
   unfolding answer returned
-  says = rw (closing-clear, leaves, highest-none (g .held), total-none (g .held))
+  says = rw (accepted-then, leaves, highest-none (g .held), total-none (g .held))
 
   writes : (before : List ℕ) → buffer g call before ≡ flatMap (λ m. 0 ∷ 50000000 ∷ 100000000 ∷ []) (members (g .held .n))
   unfolding buffer written
-  writes before = rw (closing-clear, leaves) (writes-none (g .held))
+  writes before = rw (accepted-then, leaves) (writes-none (g .held))
 
-  closes : (before : List ℕ) → AsNotBegun (g .held .n) (answer g call) (buffer g call before) × (step g call ≡ closedAt g)
+  closes : (before : List ℕ) → AsNotBegun (g .held .n) (answer g call) (buffer g call before) × (step g call ≡ closedFrom g)
   closes before = (record { says = says; writes = writes before }, leaves)
 
 -- ---- lists of calls
@@ -71,16 +73,17 @@ last-agrees : (g : Register) (cs : List Made) (c : Made) → Holds g (cs ++ (c �
 last-agrees g [] c (agreed, _, _) = agreed
 last-agrees g (b ∷ cs) c (_, _, h) = last-agrees (step g (callOf (b .asked))) cs c h
 
-every-list : (cs : List Made) (c : Made) (out : List ℕ) → MadeOn freshPeriod (cs ++ (c ∷ [])) → c .asked ≡ Asked.closing out
-    → NoDay (registerAfter start cs) → length out ≡ 3 * registerAfter start cs .held .n
-    → AsNotBegun (registerAfter start cs .held .n) (answerOf (c .reply .outcome)) (c .after) × (c .reply .period ≡ periodOf (closedAt (registerAfter start cs)))
-every-list cs c out made is none long =
+-- a list of calls of which demand 3 holds
+of-list : (cs : List Made) (c : Made) (out : List ℕ) → Holds start (cs ++ (c ∷ [])) → c .asked ≡ Asked.closing out
+    → NoAcceptedDay (registerAfter start cs) → length out ≡ 3 * registerAfter start cs .held .n → ClosedAt (registerAfter start cs) c
+of-list cs c out holds is none long =
     let g = registerAfter start cs in
-    let agreed = last-agrees start cs c (demand-3 .every-list (cs ++ (c ∷ [])) made) in
-    let (so, leaves) = closes g (length out) none long out in (
-      record { says = agreed .answer ∙ rw is (so .says); writes = agreed .buffer ∙ rw is (so .writes) },
-      agreed .period ∙ rw is (ap periodOf leaves),
-    )
+    let agreed = last-agrees start cs c holds in
+    let (so, leaves) = closes g (length out) none long out in
+    record {
+      as-not-begun = record { says = agreed .answer ∙ rw is (so .says); writes = agreed .buffer ∙ rw is (so .writes) };
+      leaves = agreed .period ∙ rw is (ap periodOf leaves);
+    }
 
 after-one : (g : Register) (cs : List Made) (a : Made) → registerAfter g (cs ++ (a ∷ [])) ≡ step (registerAfter g cs) (callOf (a .asked))
 after-one g [] a = refl
@@ -99,8 +102,8 @@ at-once cs a c o out made is e is′ long =
     let g = registerAfter start (cs ++ (a ∷ [])) in
     let left : g ≡ record { status = Open; held = o; days = [] } = after-one start cs a ∙ rw is (opened-none (registerAfter start cs) o e) in
     let made′ = subst (MadeOn freshPeriod) (sym (append-assoc cs (a ∷ []) (c ∷ []))) made in
-    let none : NoDay g = record { opened = rw left refl; none = rw left refl } in
-    let so = every-list (cs ++ (a ∷ [])) c out made′ is′ none (long ∙ rw left refl) .0 in
+    let none : NoAcceptedDay g = record { opened = rw left refl; none = rw left refl } in
+    let so = of-list (cs ++ (a ∷ [])) c out (demand-3 .every-list (cs ++ (a ∷ []) ++ (c ∷ [])) made′) is′ none (long ∙ rw left refl) .as-not-begun in
     subst (λ (g : Register). AsNotBegun (g .held .n) (answerOf (c .reply .outcome)) (c .after)) left so
 
 -- ---- texts
@@ -127,10 +130,16 @@ unfolding closed returned written
 report o good =
     let g = step start (Call.opening o) in
     let is : g ≡ record { status = Open; held = o; days = [] } = opened-none start o (clear o good) in
-    let none : NoDay g = record { opened = rw is refl; none = rw is refl } in
-    report-closes o good
-    ∙ rw (closing-clear g (3 * g .held .n) none refl, leaves g (3 * g .held .n) none refl, highest-none (g .held), total-none (g .held), writes-none (g .held))
+    let none : NoAcceptedDay g = record { opened = rw is refl; none = rw is refl } in
+    let room = 3 * g .held .n in
+    ap reportOf (sym (append-nil (textOf o)))
+    ∙ to-the-end o good []
+    ∙ nothing-after g (o .n + 2) (o .n + 3)
+    ∙ rw (closing-clear g (none .opened), leaves g room none refl, highest-none (g .held), total-none (g .held), writes-none (g .held))
     (fund-is (g .held .n) ∙ rw is refl)
+
+report-after : (o : Opening) (rest : List ℕ) → badOpening o ≡ false → 0 < length rest → reportOf (textOf o ++ rest) ≡ refusedLine 9 (o .n + 3)
+report-after o rest good some = to-the-end o good rest ∙ something-after (step start (Call.opening o)) (o .n + 2) (o .n + 3) rest some
 
 pub not-begun : NotBegun
 not-begun =
@@ -139,7 +148,11 @@ not-begun =
       raw-is = raw-none;
       exact-is = exact-none;
       closes = λ g before none long. closes g (length before) none long before;
-      every-list = every-list;
+      every-list = λ cs c out made. of-list cs c out (demand-3 .every-list (cs ++ (c ∷ [])) made);
       at-once = at-once;
+      compiled-list =
+          λ 𝓤 H A mem run cs c out from.
+          of-list (map madeOf cs) (madeOf c) out (subst (Holds start) (map-append madeOf cs (c ∷ [])) (demand-3 .compiled-lists 𝓤 H A mem run (cs ++ (c ∷ [])) from));
       report = report;
+      report-after = report-after;
     }

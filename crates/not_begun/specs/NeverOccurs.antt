@@ -22,20 +22,20 @@ use Rattle.demand3.specs.Made.{Made, MadeOn}
 use Rattle.demand3.proofs.Demand3.{Called, madeOf, FromFresh}
 use Rattle.as_printed.specs.AsPrinted.{Line, linesOf}
 
--- a row of this number is met
-abbrev pub Meets : (number : ℕ) → Refusal → Type 0
-Meets number Clear = ⊥
-Meets number (Row r) = r ≡ number
-Meets number (RowAt r index) = r ≡ number
+-- a row of this number
+abbrev pub IsRow : (number : ℕ) → Refusal → Type 0
+IsRow number Clear = ⊥
+IsRow number (Row r) = r ≡ number
+IsRow number (RowAt r index) = r ≡ number
 
--- an answer that refuses by this number
-abbrev pub Refuses : (number : ℕ) → Answer → Type 0
-Refuses number (accepted figures) = ⊥
-Refuses number (refused r) = r ≡ number
-Refuses number (refusedAt r index) = r ≡ number
+-- an answer that is a refusal by this number
+abbrev pub IsRefusal : (number : ℕ) → Answer → Type 0
+IsRefusal number (accepted figures) = ⊥
+IsRefusal number (refused r) = r ≡ number
+IsRefusal number (refusedAt r index) = r ≡ number
 
 abbrev pub AnsweredBy : (number : ℕ) → Made → Type 0
-AnsweredBy number c = Refuses number (answerOf (c .reply .outcome))
+AnsweredBy number c = IsRefusal number (answerOf (c .reply .outcome))
 
 -- a line of a report, as it is read, that tells of such a refusal: `refused`, and this number first
 abbrev pub Tells : (number : ℕ) → Line → Type 0
@@ -43,7 +43,7 @@ Tells number l = (same (l .word) (bytes "refused") ≡ true) × (getD (l .number
 
 pub record NeverOccurs (number : ℕ) : Type 2 where
   -- the refusal table, for every register and every call
-  pub no-refusal : (g : Register) (c : Call) → ¬ Meets number (refusal g c)
+  pub no-refusal : (g : Register) (c : Call) → ¬ IsRow number (refusal g c)
   -- so the calls, in every list of them
   pub no-answer : (cs : List Made) → MadeOn freshPeriod cs → Every (λ c. ¬ AnsweredBy number c) cs
   -- and of the compiled functions, as demand 3 has them

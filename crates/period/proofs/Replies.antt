@@ -23,7 +23,7 @@ use Rattle.validation.proofs.OpeningPasses.{opening-leaves}
 use Rattle.period.specs.declared.Period.{Period}
 use Rattle.period.specs.declared.Reply.{Reply}
 use Rattle.period.specs.declared.Outcome.the-variants as says
-use Rattle.period.specs.Calls.{begunPeriod, heldBy, statusOf, openingRow, openedPeriod, OpeningMeets, accountsBrought, dayRow, sizedPeriod, DayMeets, closingRow, sumsHeld, chargeBy, closedPeriod, ClosingMeets}
+use Rattle.period.specs.Calls.{withoutDays, heldBy, statusOf, openingRow, openedPeriod, OpeningMeets, accountsBrought, dayRow, sizedPeriod, DayMeets, closingRow, sumsHeld, chargeBy, closedPeriod, ClosingMeets}
 use Rattle.period.specs.Inner.{isRefused, Refuses, earlyRow, withDay}
 
 -- a row that is met decides alone
@@ -61,7 +61,7 @@ module _ (p : Period) (o : Opening) where
   opening-passed e = opening-leaves o (passed 1 (badOpening o) Clear (passed 2 (isOpen (statusOf p)) _ e .1) .0)
 
   pub opening-accepted : openingRow p o ≡ Clear → (all : List ℕ) → all ≡ inPlaces o .groups
-      → OpeningMeets p o (record { period = begunPeriod Open (withGroups o all); outcome = says.Opened })
+      → OpeningMeets p o (record { period = withoutDays Open (withGroups o all); outcome = says.Opened })
   opening-accepted e all q = record { answer = rw e; period = rw (e, q) }
 
   pub opening-refused : {r : Reply} (x : Refusal) → x ≡ openingRow p o → isRefused x ≡ true → Refuses p x r → OpeningMeets p o r

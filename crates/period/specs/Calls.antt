@@ -28,12 +28,12 @@ use Rattle.period.specs.declared.Reply.{Reply}
 use Rattle.period.specs.Reading.{answerOf}
 
 -- a period with this opening and no day: "M, D, the last accepted day number and all sums 0"
-abbrev pub begunPeriod : Status → Opening → Period
-begunPeriod status o =
+abbrev pub withoutDays : Status → Opening → Period
+withoutDays status o =
     record { status = status; held = o; accrued = record { last = 0; days = 0; highest = 0; sums = replicate 32 0 } }
 
 abbrev pub freshPeriod : Period
-freshPeriod = begunPeriod Fresh (inPlaces noOpening)
+freshPeriod = withoutDays Fresh (inPlaces noOpening)
 
 -- the same period, with what its days come to
 abbrev pub withAccrued : Period → Accrued → Period
@@ -66,7 +66,7 @@ openingRow p o = openingRefusal (statusOf p) o
 
 -- the period after an accepted opening
 abbrev pub openedPeriod : Opening → Period
-openedPeriod o = begunPeriod Open (inPlaces o)
+openedPeriod o = withoutDays Open (inPlaces o)
 
 pub record OpeningMeets (p : Period) (o : Opening) (r : Reply) : Type 0 where
   pub answer : answerOf (r .outcome) ≡ answerBy (openingRow p o) []

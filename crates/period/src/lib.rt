@@ -22,7 +22,7 @@ ghost use Prim.Native.Nat.{ℕ, _*_, _≤_, _<_};
 ghost use Rattle.methodology.specs.Day.{scale};
 ghost use Rattle.fund.specs.Shares.{shareIn};
 ghost use Rattle.period.specs.Inner.{isRefused, Refuses, earlyRow, cutDay, withDay};
-ghost use Rattle.period.specs.Calls.{begunPeriod, freshPeriod, inRange, statusOf, openingRow, OpeningMeets, DayMeets, closingRow, ClosingMeets};
+ghost use Rattle.period.specs.Calls.{withoutDays, freshPeriod, inRange, statusOf, openingRow, OpeningMeets, DayMeets, closingRow, ClosingMeets};
 
 // What the calls of a period have left. Its fields are private: a period is a fresh one, or one that calls returned. The groups of the
 // opening that is held stand in 32 places, with 0 past the last.
@@ -81,8 +81,8 @@ fn is_refused(row: Refusal) -> bool
 }
 
 // A period with this opening and no day: "M, D, the last accepted day number and all sums 0".
-fn begun(status: Status, held: Opening) -> Period
-    ensures { λ r. ⌜ r ≡ begunPeriod status held ⌝ }
+fn without_days(status: Status, held: Opening) -> Period
+    ensures { λ r. ⌜ r ≡ withoutDays status held ⌝ }
 {
     Period {
         status,
@@ -105,7 +105,7 @@ impl Period {
             k: 0,
             groups: [0; 32],
         };
-        begun(Status::Fresh, none)
+        without_days(Status::Fresh, none)
     }
 
     // Whether every field is in the range of an open period.
@@ -195,7 +195,7 @@ impl Period {
             ..opening
         };
         Reply {
-            period: begun(Status::Open, held),
+            period: without_days(Status::Open, held),
             outcome: Outcome::Opened,
         }
     }

@@ -4,12 +4,12 @@ use Rattle.numbers.specs.Lists.{range}
 use Rattle.period.proofs.Period.fresh.Statement.{statement}
 use Rattle.period.proofs.Period.fresh.Tie as tie
 
-begun-requires : tie.Need-begun-requires
-begun-requires c κs = search needs
+without-days-requires : tie.Need-without-days-requires
+without-days-requires c κs = search needs
 
 returns : tie.Need-returns
 unfolding range
-returns c = c .begun .ensures
+returns c = c .without-days .ensures
 
 pub fresh-spec : {M : Type 1} → statement M
-fresh-spec = tie.close (tie.spec begun-requires returns)
+fresh-spec = tie.close (tie.spec without-days-requires returns)

@@ -35,11 +35,11 @@ padded-requires c κs =
     let o = opening-passed _ _ (clear c) in
     omega (arith, o .groups-long, o .members-few)
 
-begun-requires : tie.Need-begun-requires
-begun-requires c κs = search needs
+without-days-requires : tie.Need-without-days-requires
+without-days-requires c κs = search needs
 
 returns-2 : tie.Need-returns-2
-returns-2 c = rw (c .begun .ensures) (opening-accepted _ _ (clear (c .before .before)) _ (c .before .padded .ensures))
+returns-2 c = rw (c .without-days .ensures) (opening-accepted _ _ (clear (c .before .before)) _ (c .before .padded .ensures))
 
 pub opening-spec : {M : Type 1} → statement M
 opening-spec =
@@ -50,5 +50,5 @@ opening-spec =
     refused-requires
     returns
     padded-requires
-    begun-requires
+    without-days-requires
     returns-2)
