@@ -27,17 +27,17 @@ use Rattle.as_printed.proofs.ReadBack.{Digit, all-digits, reads-back-as-text}
 use Rattle.as_printed.proofs.PrintedLines.{Word, without, tabbed, lineWith, line-fields, line-ended}
 use Rattle.not_begun.specs.NotBegun.{textOf}
 
--- ---- a line of a word and two numbers
+-- ---- a line: a word, and two numbers or none
 
 abbrev Ascii : ℕ → Type 0
 Ascii x = ltb 127 x ≡ false
 
 -- words that lines begin with
-pub record Begins (w : List ℕ) : Type 0 where
-  pub word : Word w
-  pub short : length w ≤ 10
-  pub ascii : Every Ascii w
-  pub alike : same w w ≡ true
+record Begins (w : List ℕ) : Type 0 where
+  word : Word w
+  short : length w ≤ 10
+  ascii : Every Ascii w
+  alike : same w w ≡ true
 
 good-bytes : (w numbers : List ℕ) → Begins w → length numbers ≤ 2 → badBytes (lineWith w numbers) ≡ false
 unfolding badBytes printed
@@ -120,7 +120,7 @@ module _ (o : Opening) (good : badOpening o ≡ false) where
       line-read i (bytes "member") (suc count ∷ groupNumber o (suc count) ∷ []) rest (member (upTo count)) begins-member (omega arith)
       ∙ rw (read, one-more count h, counted (suc count) (omega arith), eq-eqb (suc count) (suc count) refl)
 
-  -- from there on, where `left` more are due after it
+  -- from there on, where `left` more are due after it, to what follows them
   from-member : (left count i : ℕ) (end : List ℕ) → count + suc left ≡ o .n
       → reportFrom i (split LF (flatMap memberLine (range (suc count) (suc left)) ++ end)) (member (upTo count))
       ≡ reportFrom (i + suc left) (split LF end) (day opened-by)
@@ -155,7 +155,8 @@ module _ (o : Opening) (good : badOpening o ≡ false) where
   to-the-end rest =
       let all : suc (o .n - 1) ≡ o .n = omega (arith, limits .members-some) in
       let lines = flatMap memberLine (members (o .n)) in
-      let text : textOf o ++ rest ≡ periodLine ++ (lines ++ (endLine ++ rest)) = rw (append-assoc periodLine (lines ++ endLine) rest, append-assoc lines endLine rest) in
+      let text : textOf o ++ rest ≡ periodLine ++ (lines ++ (endLine ++ rest)) =
+      rw (append-assoc periodLine (lines ++ endLine) rest, append-assoc lines endLine rest) in
       ap reportOf text
       ∙ line-read 1 (bytes "period") (o .n ∷ o .k ∷ []) (lines ++ (endLine ++ rest)) period begins-period (omega arith)
       ∙ ap (λ (r : Read). followedBy r (reportFrom 2 (split LF (lines ++ (endLine ++ rest))))) period-read

@@ -152,7 +152,8 @@ not-begun =
       at-once = at-once;
       compiled-list =
           λ 𝓤 H A mem run cs c out from.
-          of-list (map madeOf cs) (madeOf c) out (subst (Holds start) (map-append madeOf cs (c ∷ [])) (demand-3 .compiled-lists 𝓤 H A mem run (cs ++ (c ∷ [])) from));
+          let holds = demand-3 .compiled-lists 𝓤 H A mem run (cs ++ (c ∷ [])) from in
+          of-list (map madeOf cs) (madeOf c) out (subst (Holds start) (map-append madeOf cs (c ∷ [])) holds);
       report = report;
       report-after = report-after;
     }
