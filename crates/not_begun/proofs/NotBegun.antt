@@ -1,22 +1,24 @@
 -- A month that has not begun: every figure of a closing without days, by computation; that such a closing is accepted; and so for every list
--- of calls, by demand 3, and every text of period, members and end. With it the claim is whole: `not-begun`.
+-- of calls, by demand 3, and every text of period, members and end; and that D counts the days answered as accepted, as the register does.
+-- With it the claim is whole: `not-begun`.
 use mathlib.Core.Path.{_≡_, refl, sym, ap, subst, _∙_}
 use mathlib.Core.Bool.{false}
 use mathlib.Core.List.{List, [], _∷_, _++_, map, map-append, flatMap, append-assoc, append-nil}
 use Prim.Native.Nat.{ℕ, _+_, _-_, _*_, _<_}
 use native.Mathlib.Omega.{arith}
-use lib.ListN.{length}
+use lib.ListN.{length, take}
 use borrow.Author.Tests.{eq-eqb}
 use Rattle.numbers.proofs.Lists.{_∈_, range-length, mem-range, map-eq}
 use Rattle.numbers.proofs.Rows.{flatMap-map, rows-part}
 use Rattle.numbers.proofs.Sums.{Σ-const}
 use Rattle.methodology.specs.declared.Status.the-variants.{Open}
-use Rattle.methodology.specs.declared.Refusal.the-variants.{Clear}
+use Rattle.methodology.specs.declared.Refusal.{Refusal}
+use Rattle.methodology.specs.declared.Refusal.the-variants.{Clear, Row, RowAt}
 use Rattle.methodology.specs.declared.Opening.{Opening}
 use Rattle.methodology.specs.Account.{members}
 use Rattle.methodology.specs.Contribution.{charge, raw, funded, unfunded, three, contributions, totalFunded}
 use Rattle.methodology.specs.Refusals.{row_when_else_, badOpening, closingRefusal}
-use Rattle.methodology.specs.Register.{Call, Register, start, refusal, accept, step, returned, written, accepted, answer, buffer}
+use Rattle.methodology.specs.Register.{Call, Register, start, refusal, accept, ifAccepted, step, returned, written, Answer, accepted, answerBy, answer, buffer}
 use Rattle.methodology.specs.Text.{bytes, printed, stretch, rows, refusedLine, fundLines, closed, reportOf}
 use Rattle.methodology.proofs.Passed.{step-clear}
 use Rattle.methodology.proofs.Splits.{nothing-after, something-after}
@@ -28,7 +30,8 @@ use Rattle.period.specs.Calls.{freshPeriod}
 use Rattle.demand3.specs.Made.{Asked, Made, callOf, MadeOn}
 use Rattle.demand3.specs.Demand3.{Agrees, Holds, registerAfter}
 use Rattle.demand3.proofs.Demand3.{madeOf, demand-3}
-use Rattle.not_begun.specs.NotBegun.{NoAcceptedDay, AsNotBegun, closedFrom, ClosedAt, textOf, fundOf, NotBegun}
+use Rattle.answers.proofs.RefusalRows.{is-clear}
+use Rattle.not_begun.specs.NotBegun.{NoAcceptedDay, AsNotBegun, closedFrom, ClosedAt, afterAnswer, daysAnswered, textOf, fundOf, NotBegun}
 use Rattle.not_begun.proofs.MonthText.{clear, to-the-end}
 
 -- ---- the figures
@@ -106,6 +109,40 @@ at-once cs a c o out made is e is′ long =
     let so = of-list (cs ++ (a ∷ [])) c out (demand-3 .every-list (cs ++ (a ∷ []) ++ (c ∷ [])) made′) is′ none (long ∙ rw left refl) .as-not-begun in
     subst (λ (g : Register). AsNotBegun (g .held .n) (answerOf (c .reply .outcome)) (c .after)) left so
 
+-- ---- D
+
+counted : (g : Register) (a : Asked) (x : Refusal) (figures : List ℕ)
+    → length (ifAccepted x (accept g (callOf a)) g .days) ≡ afterAnswer a (answerBy x figures) (length (g .days))
+unfolding accept
+counted g (Asked.opening o) Clear figures = refl
+counted g (Asked.day d out) Clear figures = omega arith
+counted g (Asked.closing out) Clear figures = refl
+counted g a (Row number) figures = refl
+counted g a (RowAt number index) figures = refl
+
+-- the register keeps as many days as were answered as accepted
+one-counted : (g : Register) (c : Made) → Agrees g c
+    → length (step g (callOf (c .asked)) .days) ≡ afterAnswer (c .asked) (answerOf (c .reply .outcome)) (length (g .days))
+unfolding step answer
+one-counted g c agreed =
+    counted g (c .asked) (refusal g (callOf (c .asked))) _ ∙ ap (λ (a : Answer). afterAnswer (c .asked) a (length (g .days))) (sym (agreed .answer))
+
+all-counted : (g : Register) (cs : List Made) (c : Made) → Holds g (cs ++ (c ∷ [])) → length (registerAfter g cs .days) ≡ daysAnswered (length (g .days)) cs
+all-counted g [] c h = refl
+all-counted g (b ∷ cs) c (agreed, _, h) =
+    all-counted (step g (callOf (b .asked))) cs c h ∙ ap (λ (D : ℕ). daysAnswered D cs) (one-counted g b agreed)
+
+D-shows : (cs : List Made) (c : Made) (out figures : List ℕ) → Holds start (cs ++ (c ∷ [])) → c .asked ≡ Asked.closing out
+    → answerOf (c .reply .outcome) ≡ accepted figures → take 1 figures ≡ daysAnswered 0 cs ∷ []
+unfolding answer returned accept
+D-shows cs c out figures holds is said =
+    let g = registerAfter start cs in
+    let k = Call.closing (length out) in
+    let answered : answer g k ≡ accepted figures = rw is at (sym (last-agrees start cs c holds .answer) ∙ said) in
+    let (clear, same) = is-clear (refusal g k) _ figures answered in
+    let kept = ap (λ (x : Register). length (x .days) ∷ []) (step-clear g k clear) in
+    ap (take 1) (sym same) ∙ kept ∙ ap (λ (D : ℕ). D ∷ []) (all-counted start cs c holds)
+
 -- ---- texts
 
 module _ (n : ℕ) where
@@ -154,6 +191,7 @@ not-begun =
           λ 𝓤 H A mem run cs c out from.
           let holds = demand-3 .compiled-lists 𝓤 H A mem run (cs ++ (c ∷ [])) from in
           of-list (map madeOf cs) (madeOf c) out (subst (Holds start) (map-append madeOf cs (c ∷ [])) holds);
+      D-shows = λ cs c out figures made. D-shows cs c out figures (demand-3 .every-list (cs ++ (c ∷ [])) made);
       report = report;
       report-after = report-after;
     }
