@@ -1,10 +1,10 @@
 -- The sums under a day are those of e, share, value, reserve and estimate over its members: a member's numbers stand in its stretch of what
 -- the day wrote. So the first is T.
 use mathlib.Core.Path.{_≡_, ap, _∙_}
-use mathlib.Core.List.{List}
+use mathlib.Core.List.{List, flatMap}
 use Prim.Native.Nat.{ℕ, _+_, _-_, _≤_}
 use native.Mathlib.Omega.{arith}
-use lib.ListN.{getD}
+use lib.ListN.{length, getD}
 use Rattle.numbers.specs.Sums.{Σ}
 use Rattle.numbers.proofs.Lists.{range-length, range-at, mem-range}
 use Rattle.numbers.proofs.Rows.{rows-part}
@@ -16,6 +16,13 @@ use Rattle.methodology.specs.Day.{total, maxEul, five, dailies}
 use Rattle.methodology.specs.Text.{stretch, columnSum, totals}
 use Rattle.fund.proofs.Dailies.{five-wide}
 use Rattle.as_printed.specs.AsPrinted.{sumsOfFive}
+
+-- where each member's numbers are a row, its stretch is its row
+pub stretch-is : (width : ℕ) (row : ℕ → List ℕ) → ((m : ℕ) → length (row m) ≡ width) → (n m : ℕ) → 1 ≤ m → m ≤ n
+    → stretch width m (flatMap row (members n)) ≡ row m
+stretch-is width row wide n m low high =
+    let back : 1 + (m - 1) ≡ m = omega arith in
+    rows-part width row wide (members n) (m - 1) 0 (omega (arith, range-length 1 n)) ∙ ap row (range-at 1 n (m - 1) 0 (omega arith) ∙ back)
 
 module _ (o : Opening) (accts : List Account) where
   abbrev e : (m : ℕ) → ℕ
@@ -29,10 +36,7 @@ module _ (o : Opening) (accts : List Account) where
 
   pub record-is : (m : ℕ) → 1 ≤ m → m ≤ o .n → stretch 5 m (dailies o accts) ≡ five (e m) Max T
   unfolding dailies
-  record-is m low high =
-      let back : 1 + (m - 1) ≡ m = omega arith in
-      rows-part 5 (λ m. five (e m) Max T) (λ m. five-wide (e m) Max T) (members (o .n)) (m - 1) 0 (omega (arith, range-length 1 (o .n)))
-      ∙ ap (λ (m : ℕ). five (e m) Max T) (range-at 1 (o .n) (m - 1) 0 (omega arith) ∙ back)
+  record-is = stretch-is 5 (λ m. five (e m) Max T) (λ m. five-wide (e m) Max T) (o .n)
 
   column-is : (c : ℕ) → columnSum 5 (o .n) (dailies o accts) c ≡ Σ (members (o .n)) (λ m. getD (five (e m) Max T) c 0)
   unfolding columnSum

@@ -10,7 +10,7 @@ use lib.ListN.{length}
 use Rattle.numbers.specs.Sums.{Σ}
 use Rattle.numbers.specs.Fractions.{Fraction, _over_, whole, Proper, _⊕_, _⊗_, _≼_, _≺_, Σᶠ}
 use Rattle.numbers.specs.Rounding.{ceilDiv}
-use Rattle.numbers.proofs.Lists.{_∈_, range-length, every-mem}
+use Rattle.numbers.proofs.Lists.{_∈_, none-or-some, range-length, every-mem}
 use Rattle.numbers.proofs.Sums.{Σ-add, Σ-eq, Σ-zero, Σ-bound, Σ-least, Σ-swap}
 use Rattle.numbers.proofs.Fractions.{Σᶠ-proper}
 use Rattle.numbers.proofs.RoundedUp.{Σᶠ-ceil-above, Σᶠ-ceil-below, parts-above, parts-below}
@@ -20,7 +20,7 @@ use Rattle.methodology.specs.Member.{loss}
 use Rattle.methodology.specs.Day.{total, scale, share}
 use Rattle.methodology.specs.Contribution.{KeptDay, highest, sumOfShares, raw, funded, exactCharge, shortfall, allowance}
 use Rattle.fund.specs.Counted.{Counted}
-use Rattle.fund.proofs.RawCharge.{none-or-some, highest-none, raw-none, exact-none, charge-some, exact-some}
+use Rattle.fund.proofs.RawCharge.{highest-none, raw-none, exact-none, charge-some, exact-some}
 use Rattle.fund.proofs.Charges.{charge-above, charge-below, charges-above, charges-below}
 
 -- all that is used of the scale

@@ -1,7 +1,7 @@
 -- A charge without a day, which is 0, and with days, where it is the quotient: laws of `charge` and `exactCharge` for both.
 use mathlib.Core.Path.{_≡_, refl}
 use mathlib.Core.Bool.{false}
-use mathlib.Core.List.{List, [], _∷_}
+use mathlib.Core.List.{List, []}
 use Prim.Native.Nat.{ℕ, zero, suc, _*_, _<_, _≤_}
 use native.Mathlib.Omega.{arith}
 use lib.Dec.{eqb}
@@ -15,11 +15,6 @@ use Rattle.methodology.specs.Member.{loss}
 use Rattle.methodology.specs.Day.{total, scale}
 use Rattle.methodology.specs.Contribution.{KeptDay, highest, charge, raw, exactCharge}
 use Rattle.quotient.proofs.QuotientBounds.{raw-le}
-
--- a list has no element, or some
-pub none-or-some : {A P : Type 0} (xs : List A) → (xs ≡ [] → P) → (0 < length xs → P) → P
-none-or-some [] f g = f refl
-none-or-some (x ∷ xs) f g = g (omega arith)
 
 -- ---- no day
 

@@ -4,12 +4,11 @@
 use mathlib.Core.Path.{_≡_, refl, sym, ap, subst, _∙_}
 use mathlib.Core.Bool.{false}
 use mathlib.Core.List.{List, [], _∷_, _++_, map, map-append, flatMap, append-assoc, append-nil}
-use Prim.Native.Nat.{ℕ, _+_, _-_, _*_, _<_}
+use Prim.Native.Nat.{ℕ, _+_, _*_, _<_}
 use native.Mathlib.Omega.{arith}
 use lib.ListN.{length, take}
-use borrow.Author.Tests.{eq-eqb}
 use Rattle.numbers.proofs.Lists.{_∈_, range-length, mem-range, map-eq}
-use Rattle.numbers.proofs.Rows.{flatMap-map, rows-part}
+use Rattle.numbers.proofs.Rows.{flatMap-map}
 use Rattle.numbers.proofs.Sums.{Σ-const}
 use Rattle.methodology.specs.declared.Status.the-variants.{Open}
 use Rattle.methodology.specs.declared.Refusal.{Refusal}
@@ -17,7 +16,7 @@ use Rattle.methodology.specs.declared.Refusal.the-variants.{Clear, Row, RowAt}
 use Rattle.methodology.specs.declared.Opening.{Opening}
 use Rattle.methodology.specs.Account.{members}
 use Rattle.methodology.specs.Contribution.{charge, raw, funded, unfunded, three, contributions, totalFunded}
-use Rattle.methodology.specs.Refusals.{row_when_else_, badOpening, closingRefusal}
+use Rattle.methodology.specs.Refusals.{badOpening}
 use Rattle.methodology.specs.Register.{Call, Register, start, refusal, accept, ifAccepted, step, returned, written, Answer, accepted, answerBy, answer, buffer}
 use Rattle.methodology.specs.Text.{bytes, printed, stretch, rows, refusedLine, fundLines, closed, reportOf}
 use Rattle.methodology.proofs.Passed.{step-clear}
@@ -31,6 +30,7 @@ use Rattle.demand3.specs.Made.{Asked, Made, callOf, MadeOn}
 use Rattle.demand3.specs.Demand3.{Agrees, Holds, registerAfter}
 use Rattle.demand3.proofs.Demand3.{madeOf, demand-3}
 use Rattle.answers.proofs.RefusalRows.{is-clear}
+use Rattle.as_printed.proofs.DaySums.{stretch-is}
 use Rattle.not_begun.specs.NotBegun.{NoAcceptedDay, AsNotBegun, closedFrom, ClosedAt, afterAnswer, daysAnswered, textOf, fundOf, NotBegun}
 use Rattle.not_begun.proofs.MonthText.{clear, to-the-end}
 
@@ -51,8 +51,7 @@ module _ (g : Register) (room : ℕ) (none : NoAcceptedDay g) (long : room ≡ 3
   call = Call.closing room
 
   accepted-then : refusal g call ≡ Clear
-  unfolding refusal closingRefusal row_when_else_
-  accepted-then = rw (none .opened, eq-eqb room (3 * g .held .n) long)
+  accepted-then = rw long (closing-clear g (none .opened))
 
   leaves : step g call ≡ closedFrom g
   unfolding accept
@@ -149,8 +148,8 @@ module _ (n : ℕ) where
   abbrev each : (m : ℕ) → List ℕ
   each m = 0 ∷ 50000000 ∷ 100000000 ∷ []
 
-  stretch-is : (m : ℕ) → m ∈ members n → stretch 3 m (flatMap each (members n)) ≡ each m
-  stretch-is m i = let (low, high) = mem-range 1 n i in rows-part 3 each (λ m. refl) (members n) (m - 1) 0 (omega (arith, range-length 1 n))
+  own : (m : ℕ) → m ∈ members n → stretch 3 m (flatMap each (members n)) ≡ each m
+  own m i = let (low, high) = mem-range 1 n i in stretch-is 3 each (λ m. refl) n m low (omega arith)
 
   fund-is : fundLines n (0 ∷ 0 ∷ n * 50000000 ∷ []) (flatMap each (members n)) ≡ fundOf n
   unfolding fundLines rows
@@ -159,7 +158,7 @@ module _ (n : ℕ) where
       let line : ℕ → List ℕ = λ m. m ∷ stretch 3 m (flatMap each (members n)) in
       ap (λ (l : List ℕ). printed (bytes "fund") (0 ∷ 0 ∷ n * 50000000 ∷ []) ++ l)
       (sym (flatMap-map line (members n) (printed word))
-      ∙ ap (flatMap (printed word)) (map-eq line (λ m. m ∷ each m) (members n) (λ m i. ap (λ (l : List ℕ). m ∷ l) (stretch-is m i)))
+      ∙ ap (flatMap (printed word)) (map-eq line (λ m. m ∷ each m) (members n) (λ m i. ap (λ (l : List ℕ). m ∷ l) (own m i)))
       ∙ flatMap-map (λ m. m ∷ each m) (members n) (printed word))
 
 report : (o : Opening) → badOpening o ≡ false → reportOf (textOf o) ≡ fundOf (o .n)

@@ -62,6 +62,11 @@ replicate-at zero i x = refl
 replicate-at (suc n) zero x = refl
 replicate-at (suc n) (suc i) x = replicate-at n i x
 
+-- a list has no element, or some
+pub none-or-some : {A P : Type 0} (xs : List A) → (xs ≡ [] → P) → (0 < length xs → P) → P
+none-or-some [] f g = f refl
+none-or-some (x ∷ xs) f g = g (omega arith)
+
 -- ranges
 pub range-length : (a n : ℕ) → length (range a n) ≡ n
 unfolding range
