@@ -10,7 +10,7 @@ def house(member, losses, margin=0):
     return Account(member, 0, H, 0, margin, 0, [-loss for loss in losses])
 
 
-def max_eul(groups, *losses, margins=(0, 0, 0)):
+def own_max_eul(groups, *losses, margins=(0, 0, 0)):
     """The Max EUL of a day of house accounts."""
     accounts = [house(i, under, margins[i - 1]) for i, under in enumerate(losses, 1)]
     return day_figures(len(losses), len(losses[0]), groups, accounts)[1]
@@ -41,9 +41,9 @@ CASES = [
     (3, member_eul([(H, -40), (R, 60), (R, 50), (R, 30), (R, -25), (U, 20), (A, 10)]), 100),
     (4, member_eul([(H, 0), (R, 10), (R, 10), (U, 100)]), 160),
     (5, member_eul([(H, 0)] + 5 * [(R, 3)]), 8),
-    (6, max_eul([1, 1], [100], [0], margins=(0, 30)), 100),
-    (7, max_eul([1, 1, 0], [100], [80], [150]), 180),
-    (8, max_eul([1, 1], [100, 0], [0, 80]), 100),
+    (6, own_max_eul([1, 1], [100], [0], margins=(0, 30)), 100),
+    (7, own_max_eul([1, 1, 0], [100], [80], [150]), 180),
+    (8, own_max_eul([1, 1], [100, 0], [0, 80]), 100),
     (9, [raw for raw, _, _ in closing([200 * M] * 3)], [73_333_334] * 3),
     (10, [funded for _, funded, _ in closing([100 * M, 100 * M], [0, 600 * M])],
      [165 * M, 495 * M]),

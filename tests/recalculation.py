@@ -1,5 +1,5 @@
 #!/usr/bin/env python3
-"""Document 01, with Changes 1 and 2 of document 02, recalculated in its own order, with exact fractions.
+"""Document 01, with Changes 1 to 3 of document 02, recalculated in its own order, with exact fractions.
 
 Reads a month's text on standard input and writes the report on standard output.
 """
@@ -50,10 +50,9 @@ def member_eul(euls):
 # From members to the day
 
 def day_figures(n, k, groups, accounts):
-    """T, the day's Max EUL and each member's five numbers; None for these where T is 0."""
+    """T, the day's own Max EUL and each member's loss."""
     of_member = [[a for a in accounts if a.member == m] for m in range(1, n + 1)]
     e = [max(member_eul([(a.kind, own_eul(a)) for a in own]), 0) for own in of_member]
-    t = sum(e)
     greatest = 0
     for j in range(k):
         sums = {}
@@ -63,15 +62,13 @@ def day_figures(n, k, groups, accounts):
             sums[group] = sums.get(group, 0) + under_j
             greatest = max(greatest, under_j)
         greatest = max(greatest, *sums.values())
-    if t == 0:
-        return t, greatest, None
-    return t, greatest, [five(loss, t, greatest) for loss in e]
+    return sum(e), greatest, e
 
 
-def five(e, t, greatest):
-    """A member's loss, share, and value, reserve and estimate in cents."""
+def five(e, t, max_eul):
+    """A member's loss, share, and value, reserve and estimate in cents, by the Max EUL that the day reports."""
     share = ceil(Fraction(e * SHARE, t))
-    cents = [nearest(Fraction(percent * e * greatest, t)) for percent in (100, 110, 220)]
+    cents = [nearest(Fraction(percent * e * max_eul, t)) for percent in (100, 110, 220)]
     return [e, share] + cents
 
 
@@ -103,7 +100,8 @@ class Period:
         if not limits_hold(n, k) or any(g > 32 for g in groups):
             raise Refusal(1)
         self.n, self.k, self.groups = n, k, groups
-        self.last = self.M = self.D = 0
+        self.last = 0
+        self.own = []                               # of each accepted day its own Max EUL
         self.shares = [[] for _ in range(n)]
 
     def day(self, number, accounts):
@@ -118,15 +116,16 @@ class Period:
         for i, account in enumerate(accounts):
             if bad_amount(account):
                 raise Refusal(6, i)
-        t, greatest, fives = day_figures(self.n, self.k, self.groups, accounts)
+        t, own, losses = day_figures(self.n, self.k, self.groups, accounts)
         if t == 0:
             raise Refusal(7)
         self.last = number
-        self.M = max(self.M, greatest)
-        self.D += 1
+        self.own.append(own)
+        reported = max(self.own)                    # the highest so far (document 02, Change 3)
+        fives = [five(e, t, reported) for e in losses]
         for shares, figures in zip(self.shares, fives):
             shares.append(figures[1])
-        return t, greatest, fives
+        return t, reported, fives
 
     def bad_heading(self, accounts):
         """The index of the first account bad by row 5, or None."""
@@ -147,8 +146,9 @@ class Period:
 
     def closing(self):
         """The closing call: D, M, the total funded and three numbers a member."""
-        threes = [three(self.M, self.D, shares) for shares in self.shares]
-        return self.D, self.M, sum(figures[1] for figures in threes), threes
+        d, m = len(self.own), max(self.own, default=0)
+        threes = [three(m, d, shares) for shares in self.shares]
+        return d, m, sum(figures[1] for figures in threes), threes
 
 
 def limits_hold(n, k):
@@ -263,9 +263,8 @@ def one_day(lines, day_line, k, period, say):
         if held > 65_536:                       # the line that passes this is bad
             raise Refusal(9)
         accounts.append(Account(member, account, letter, base, margin, extra, stress))
-    t, greatest, fives = call(lambda: period.day(day, accounts),
-                              {3: at, 4: at, 7: at}, at + 1)
-    say("day", day, t, greatest)
+    t, max_eul, fives = call(lambda: period.day(day, accounts), {3: at, 4: at, 7: at}, at + 1)
+    say("day", day, t, max_eul)
     for i, figures in enumerate(fives, 1):
         say("daily", i, *figures)
     say("total", *map(sum, zip(*fives)))        # document 02, Change 1

@@ -16,7 +16,7 @@ import texts
 TOP = os.path.join(os.path.dirname(os.path.abspath(__file__)), "..")
 WORKED = "crates/methodology/proofs/WorkedTexts.antt"
 MARKS = "-- What stands from here on is written by tests/tables.py, from tests/texts.py.\n", "-- Up to here it is written.\n"
-ROOM = 262_144              # as much as `vectors` reads, and as one report may have there
+ROOM = 524_288              # as much as `vectors` reads
 
 
 def held(path):

@@ -107,6 +107,11 @@ def second(*bases):
     return [acct(i, 0, "H", base, 0, 0, base, 0, base) for i, base in enumerate(bases, 1)]
 
 
+def hedged(amount):
+    """Member 1's accounts, whose worst scenarios differ: its loss is so much, and its EUL is 0 under both."""
+    return [acct(1, 0, "H", 0, amount, 0, -amount, 0), acct(1, 1, "R", 0, 0, 0, 0, -amount)]
+
+
 def stored(name):
     """A month that no rule makes, as it was stored; lines that were whole get the fields that have come since."""
     with open(os.path.join(STORED, name + ".month"), encoding="latin-1", newline="") as file:
@@ -241,6 +246,10 @@ WORKED_ONLY = [
                                             (2, house(1, 400000000), house(2, 200000000)), (3, house(1, 70000000), house(2, 30000000)))),
     ("M on the last of three days", month(1, [0, 0], (1, house(1, 70000000), house(2, 30000000)),
                                           (2, house(1, 100000000), house(2, 300000000)), (3, house(1, 400000000), house(2, 200000000)))),
+    ("Max EULs of its own that fall and rise again, one of them 0", month(
+        2, [0, 0], (2, *hedged(0), falls(2, 50, 30)), (3, *hedged(0), falls(2, 80, 20)), (4, *hedged(7), falls(2, 0, 0)),
+        (7, *hedged(0), falls(2, 10, 60)), (9, *hedged(5), falls(2, 3, 2)), (30, *hedged(0), falls(2, 90, 0)), (31, *hedged(0), falls(2, 1, 2)))),
+    ("31 days, the first of the highest Max EUL, the others of less and less", month(1, [0], *((i, house(1, 50 - i)) for i in range(1, 32)))),
     ("a house account of kind h", one_house(acct(1, 0, "h", 10, 0, 0, 0))),
     ("a house account of kind empty", one_house(acct(1, 0, "", 10, 0, 0, 0))),
     ("a house account of kind HH", one_house(acct(1, 0, "HH", 10, 0, 0, 0))),
@@ -307,9 +316,10 @@ WORKED_ONLY = [
     ("9 on a second day", after_a_day(day(2, 2), house(1, 10), acct(1, "x", "U", 10, 0, 0, 0))),
     ("days that leave numbers out", month(1, [0], (1, house(1, 10)), (9, house(1, 30)), (31, house(1, 20)))),
     ("groups of three and of two", month(3, [17, 1, 17, 0, 1, 17, 0], (1, *second(10, 8, 10, 25, 8, 10, 1)),
-                                         (2, *second(10, 20, 10, 25, 20, 10, 1)),
-                                         (3, *second(20, 10, 20, 25, 10), acct(6, 0, "H", 0, 15, 0, 0, 0, 0),
-                                          acct(6, 1, "R", 5, 0, 0, 5, 0, 5), acct(7, 0, "H", 1, 0, 0, 1, 0, 1)))),
+                                         (2, *second(10, 20, 10, 25, 20, 10, 1)))),
+    ("groups of three and of two, one member of three covered", month(
+        3, [17, 1, 17, 0, 1, 17, 0], (3, *second(20, 10, 20, 25, 10), acct(6, 0, "H", 0, 15, 0, 0, 0, 0),
+                                      acct(6, 1, "R", 5, 0, 0, 5, 0, 5), acct(7, 0, "H", 1, 0, 0, 1, 0, 1)))),
     ("a stress -0", example((5, acct(1, 0, "H", 390000000, 0, 0, "-0")))),
     ("a stress 01", example((5, acct(1, 0, "H", 390000000, 0, 0, "01")))),
     ("a stress empty", example((5, acct(1, 0, "H", 390000000, 0, 0, "")))),
@@ -424,7 +434,7 @@ TOTALS = [
     ("a day with its total; 3 for a number that is not above it", stored("totals-11")),
     ("two days of one T and unlike cents", stored("totals-12")),
     ("one member, clients of every kind, on three days of a few dollars", stored("totals-13")),
-    ("a day whose cents are all 0, between two that are not", stored("totals-14")),
+    ("a day of own Max EUL 0 between two of 13", stored("totals-14")),
     ("four members of one group that lose a dollar each on six days", stored("totals-15")),
     ("a loss of a dollar on the second of three days, and a charge a dollar below the minimum", stored("totals-16")),
     ("values and estimates a cent above, reserves a cent below; then half cents in the reserves", stored("totals-17")),
@@ -474,7 +484,56 @@ NOT_BEGUN = [
     ("no day, four groups of one member each", month(3, [28, 4, 5, 19])),
 ]
 
+# Months drawn at random whose days report a Max EUL above their own (document 02, Change 3).
+SO_FAR = [
+    ("four members of one group: a day of 11 dollars, the highest, one below it; 6 on a fourth", stored("so-far-00")),
+    ("a day of 8,000 dollars and one of 16, which reports the Max EUL of the first, far above its T", stored("so-far-01")),
+    ("two days of one T, the second with the lower Max EUL; groups of three and of one", stored("so-far-02")),
+    ("two days, the second below the first; 3 for a third day's number", stored("so-far-03")),
+    ("one member, clients of kinds R and U: Max EULs of 8, 3 and 7", stored("so-far-04")),
+    ("groups of two and of one member, the second day below the first", stored("so-far-05")),
+    ("three groups of one member each, millions of millions, the highest on the third day; 5 on a fourth", stored("so-far-06")),
+    ("two members of one group: a day of 55 dollars after one of a million millions; 5 on a fourth", stored("so-far-07")),
+    ("four days, of which the second and the third report the first one's and the fourth its own", stored("so-far-08")),
+    ("one member, clients of every kind: Max EULs of 9, 8 and 3", stored("so-far-09")),
+    ("one member: two equal days and one of three dollars less", stored("so-far-10")),
+    ("a day at the limit of an amount, one below it, a higher one, and one of 31 dollars", stored("so-far-11")),
+    ("one member: the highest on the second of three days", stored("so-far-12")),
+    ("own Max EULs of 0, 3 and 1, two scenarios", stored("so-far-13")),
+    ("a loss of 7 beside a large one that falls from day to day", stored("so-far-14")),
+    ("four members of one group, days of 2 dollars, of millions and of 1; 5 on a fourth", stored("so-far-15")),
+    ("one member: Max EULs of 1, 4 and 2", stored("so-far-16")),
+    ("four members of one group, the highest on the second day and a higher one on the fourth", stored("so-far-17")),
+    ("a day of one dollar after one of millions of millions; 6 on a third", stored("so-far-18")),
+    ("four members, the highest on the first of three days", stored("so-far-19")),
+    ("a group of one member, two scenarios, the second day below the first", stored("so-far-20")),
+    ("a loss of 7 beside a large one; 3 for a third day's number", stored("so-far-21")),
+    ("four members of one group, of which one loses: the highest on the third of four days", stored("so-far-22")),
+    ("a loss of 7 beside a large one: a fall, and a rise above the first day", stored("so-far-23")),
+    ("one member with thirteen clients: a fall to one dollar, and a rise above the first day", stored("so-far-24")),
+    ("four groups of one member each: the highest on the second of four days, then falling", stored("so-far-25")),
+    ("two members of one group, two scenarios: a fall, and a rise above the first day", stored("so-far-26")),
+    ("four members, the highest on the first of four days, then 1 dollar, and a rise below it", stored("so-far-27")),
+    ("four members of one group, the highest on the third of four days", stored("so-far-28")),
+    ("two members, three scenarios: two days of a dollar or two between high ones", stored("so-far-29")),
+    ("three groups: a day of 1 dollar, the highest, and one below it", stored("so-far-30")),
+    ("four members, the highest on the second of four days, then falling to 1 dollar", stored("so-far-31")),
+    ("the highest on the third of four days, after two at their own; a fourth of 49 dollars", stored("so-far-32")),
+    ("four members of one group, three scenarios: the highest on the first of four days", stored("so-far-33")),
+    ("three days with their totals; 9 after them", stored("so-far-34")),
+    ("two days with their totals; 9 on a third", stored("so-far-35")),
+    ("three days with their totals; 5 on a fourth", stored("so-far-36")),
+    ("the highest on the fourth day; 9 after it", stored("so-far-37")),
+    ("a day of a dollar and one of 7 after a high one; 9 on a third", stored("so-far-38")),
+    ("one member: the highest on the third of four days, three scenarios", stored("so-far-39")),
+    ("three days, the third between the others; 9 after them", stored("so-far-40")),
+    ("one member with a group of its own, four days that fall", stored("so-far-41")),
+    ("the highest on the first of four days, of which the last two rise; 9 after them", stored("so-far-42")),
+    ("a day of own Max EUL 0 after one near three times the limit; 9 on a third", stored("so-far-43")),
+]
+
 # Of the months of VALID the longest is run by `vectors` alone, of those of TOTALS all but these: cents rounded both ways, a group, two days
-# of one T, a day whose cents are 0, equal days; of those of NOT_BEGUN the first two are worked out.
-WORKED = BOTH + WORKED_ONLY + VALID[:5] + VALID[6:] + [TOTALS[i] for i in (1, 6, 12, 14, 15)] + NOT_BEGUN[:2]
-VECTORS = BOTH + VALID + VECTORS_ONLY + TOTALS + NOT_BEGUN
+# of one T, a day of own Max EUL 0, equal days; of those of NOT_BEGUN the first two are worked out, of those of SO_FAR four short ones.
+WORKED = (BOTH + WORKED_ONLY + VALID[:5] + VALID[6:] + [TOTALS[i] for i in (1, 6, 12, 14, 15)] + NOT_BEGUN[:2]
+          + [SO_FAR[i] for i in (2, 8, 13, 29)])
+VECTORS = BOTH + VALID + VECTORS_ONLY + TOTALS + NOT_BEGUN + SO_FAR

@@ -53,7 +53,7 @@ SAME_TYPE = [names.split() for names in (
     ".n .k", ".margins .extras", ".margin .extra", ".member .number .kind", "o .held",
     "kindH kindR kindA kindU", "isHouse isR isAorU isClient", "prev h nobody", "e Max T", "M S D",
     "value reserve estimate share", "funded unfunded shortfall",
-    "halfOfClients twoLargestOfR partB partC", "total maxEul", "eulUnder ownEul",
+    "halfOfClients twoLargestOfR partB partC", "total ownMaxEul", "eulUnder ownEul",
     "Fresh Open Closed", "number index", "n k", "at i count used", "tab LF", "bad5 bad6 count",
     "last number", "margin extra fall", "room D", "m j m′ k", "x y",
     "nOutside kOutside groupOutside countOutside memberOutside", "step accept",
@@ -83,10 +83,10 @@ FROM = {
 # ---- wrong definitions that no change of one word makes: file, right, wrong
 
 BY_HAND = [line.replace("⏎", "\n    ").split(" | ") for line in """
-Contribution.highest | greatest days (λ d. maxEul o (d .accounts)) | greatest (take 1 days) (λ d. maxEul o (d .accounts))
-Contribution.highest | greatest days (λ d. maxEul o (d .accounts)) | greatest (drop (length days - 1) days) (λ d. maxEul o (d .accounts))
-Contribution.highest | greatest days (λ d. maxEul o (d .accounts)) | greatest (take 2 days) (λ d. maxEul o (d .accounts))
-Contribution.highest | maxEul o (d .accounts)) | total o (d .accounts))
+Contribution.highest | greatest days (λ d. ownMaxEul o (d .accounts)) | greatest (take 1 days) (λ d. ownMaxEul o (d .accounts))
+Contribution.highest | greatest days (λ d. ownMaxEul o (d .accounts)) | greatest (drop (length days - 1) days) (λ d. ownMaxEul o (d .accounts))
+Contribution.highest | greatest days (λ d. ownMaxEul o (d .accounts)) | greatest (take 2 days) (λ d. ownMaxEul o (d .accounts))
+Contribution.highest | ownMaxEul o (d .accounts)) | total o (d .accounts))
 Contribution.sumOfShares | Σ days | Σ (take 2 days)
 Contribution.sumOfShares | Σ days | Σ (take 1 days)
 Contribution.raw | (length days) | (length (take 2 days))
@@ -109,8 +109,8 @@ Contribution.allowance | whole 1 ⊕ (11 * M) over (10 * scale) | (11 * M) over 
 Contribution.totalFunded | funded (raw o days m) | raw o days m
 Contribution.unfunded | 2 * funded rawCharge | funded (2 * rawCharge)
 Day.total | Σ (members (o .n)) | Σ (members (o .n - 1))
-Day.maxEul | λ j. memberUnder accts m j ⁺ | λ j. groupSum o accts m j ⁺
-Day.maxEul | (greatest (members (o .n)) (λ m. greatest (scenarios (o .k)) (λ j. memberUnder accts m j ⁺))) | (greatest (members (o .n)) (loss (o .k) accts))
+Day.ownMaxEul | λ j. memberUnder accts m j ⁺ | λ j. groupSum o accts m j ⁺
+Day.ownMaxEul | (greatest (members (o .n)) (λ m. greatest (scenarios (o .k)) (λ j. memberUnder accts m j ⁺))) | (greatest (members (o .n)) (loss (o .k) accts))
 Day.groupOf | cond (eqb (groupNumber o m) 0) (m ∷ []) | cond (eqb (groupNumber o m) 32) (m ∷ [])
 Day.groupOf | cond (eqb (groupNumber o m) 0) (m ∷ []) | cond (leb (groupNumber o m) 1) (m ∷ [])
 Day.groupSum | memberUnder accts m′ j) | pos (memberUnder accts m′ j ⁺))

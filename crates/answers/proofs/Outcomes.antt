@@ -12,7 +12,7 @@ use Rattle.methodology.specs.declared.Refusal.the-variants.{Clear, Row, RowAt}
 use Rattle.methodology.specs.declared.Status.{Status}
 use Rattle.methodology.specs.declared.Opening.{Opening}
 use Rattle.methodology.specs.Account.{DayInput}
-use Rattle.methodology.specs.Day.{total, maxEul, dailies}
+use Rattle.methodology.specs.Day.{total, ownMaxEul, dailies}
 use Rattle.methodology.specs.Refusals.{row_when_else_, isOpen, badOpening, openingRefusal, closingRefusal}
 use Rattle.methodology.specs.Register.{accepted, answerBy}
 use Rattle.methodology.proofs.RowLimits.{day-few}
@@ -102,7 +102,7 @@ day-width n (unsized-at number index h) = omega arith
 
 -- what a day that is told as accepted has passed and written
 module _ {p : Period} {d : DayInput} {before after : List ℕ} {r : Reply} (m : DayMeets p d before r after) {T top : ℕ} (is : r .outcome ≡ Sized T top) where
-  told : (dayRow p d (length before) ≡ Clear) × (total (heldBy p) (accountsBrought p d) ∷ maxEul (heldBy p) (accountsBrought p d) ∷ [] ≡ T ∷ top ∷ [])
+  told : (dayRow p d (length before) ≡ Clear) × (total (heldBy p) (accountsBrought p d) ∷ ownMaxEul (heldBy p) (accountsBrought p d) ∷ [] ≡ T ∷ top ∷ [])
   told = is-clear (dayRow p d (length before)) _ _ (sym (m .answer) ∙ ap answerOf is)
 
   sized-passes : Admits p d (length before) × (0 < total (heldBy p) (accountsBrought p d))

@@ -12,7 +12,7 @@ use Rattle.numbers.proofs.Sums.{Σ-eq}
 use Rattle.methodology.specs.declared.Opening.{Opening}
 use Rattle.methodology.specs.Account.{Account, members}
 use Rattle.methodology.specs.Member.{loss}
-use Rattle.methodology.specs.Day.{total, maxEul, five, dailies}
+use Rattle.methodology.specs.Day.{total, ownMaxEul, five, dailies}
 use Rattle.methodology.specs.Text.{stretch, columnSum, totals}
 use Rattle.fund.proofs.Dailies.{five-wide}
 use Rattle.as_printed.specs.AsPrinted.{sumsOfFive}
@@ -32,7 +32,7 @@ module _ (o : Opening) (accts : List Account) where
   T = total o accts
 
   abbrev Max : ℕ
-  Max = maxEul o accts
+  Max = ownMaxEul o accts
 
   pub record-is : (m : ℕ) → 1 ≤ m → m ≤ o .n → stretch 5 m (dailies o accts) ≡ five (e m) Max T
   unfolding dailies

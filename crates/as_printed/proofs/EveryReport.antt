@@ -11,7 +11,7 @@ use Rattle.numbers.specs.Lists.{Every}
 use Rattle.numbers.proofs.Lists.{every-append}
 use Rattle.methodology.specs.declared.Refusal.the-variants.{Clear}
 use Rattle.methodology.specs.Account.{DayInput, accounts}
-use Rattle.methodology.specs.Day.{total, maxEul}
+use Rattle.methodology.specs.Day.{total, ownMaxEul}
 use Rattle.methodology.specs.Register.{Call, Register, start, refusal, accept, step, returned, written}
 use Rattle.methodology.specs.Text.{LF, bytes, same, split, fields, valueFrom, refusedLine, totals, reportOf}
 use Rattle.methodology.proofs.Passed.{step-clear}
@@ -107,7 +107,7 @@ module _ {g : Register} (k : Kept g) (d : DayInput) (clear : refusal g (dayCall 
   T = total (after .held) (accounts (after .held .k) d)
 
   abbrev Max : ℕ
-  Max = maxEul (after .held) (accounts (after .held .k) d)
+  Max = ownMaxEul (after .held) (accounts (after .held .k) d)
 
   fit : CallFits g call
   fit = call-fits k call

@@ -13,7 +13,7 @@ use Rattle.methodology.specs.declared.Refusal.the-variants.{Clear}
 use Rattle.methodology.specs.declared.Opening.{Opening}
 use Rattle.methodology.specs.Account.{DayInput, Account, members}
 use Rattle.methodology.specs.Member.{loss}
-use Rattle.methodology.specs.Day.{total, maxEul, share, value, reserve, estimate, five, dailies}
+use Rattle.methodology.specs.Day.{total, ownMaxEul, share, value, reserve, estimate, five, dailies}
 use Rattle.methodology.specs.Register.{Call, Register, start, refusal, step, returned, written}
 use Rattle.methodology.specs.Text.{LF, bytes, same, split, fields, isDigit, valueFrom, numberOf, decimal, stretch, totals, dayLines, reportOf}
 use Rattle.demand3.specs.Demand3.{Fits64}
@@ -124,7 +124,7 @@ pub record ReadAsSummed (g : Register) (d : DayInput) (call : Call) : Type 0 whe
 abbrev pub sumsOfFive : Opening → List Account → List ℕ
 sumsOfFive o accts =
     let e = loss (o .k) accts in
-    let Max = maxEul o accts in
+    let Max = ownMaxEul o accts in
     let T = total o accts in
     Σ (members (o .n)) e
     ∷ Σ (members (o .n)) (λ m. share (e m) T)
@@ -136,7 +136,7 @@ sumsOfFive o accts =
 pub record AsPrinted : Type 0 where
   -- a member's record is its five numbers, and the sums of the columns are those of the five
   pub record-is : (o : Opening) (accts : List Account) (m : ℕ) → 1 ≤ m → m ≤ o .n
-      → stretch 5 m (dailies o accts) ≡ five (loss (o .k) accts m) (maxEul o accts) (total o accts)
+      → stretch 5 m (dailies o accts) ≡ five (loss (o .k) accts m) (ownMaxEul o accts) (total o accts)
   pub sums-of-five : (o : Opening) (accts : List Account) → totals (o .n) (dailies o accts) ≡ sumsOfFive o accts
   -- "and the first equals T"
   pub first-sum-is-T : (o : Opening) (accts : List Account) → getD (totals (o .n) (dailies o accts)) 0 0 ≡ total o accts

@@ -16,7 +16,7 @@ use Rattle.methodology.specs.declared.Refusal.{Refusal}
 use Rattle.methodology.specs.declared.Refusal.the-variants.{Clear, Row, RowAt}
 use Rattle.methodology.specs.declared.Opening.{Opening}
 use Rattle.methodology.specs.Account.{noOpening, DayInput}
-use Rattle.methodology.specs.Day.{total, maxEul, scale, dailies}
+use Rattle.methodology.specs.Day.{total, ownMaxEul, scale, dailies}
 use Rattle.methodology.specs.Contribution.{funded, unfunded, three}
 use Rattle.methodology.specs.Refusals.{isOpen, badOpening, openingRefusal}
 use Rattle.methodology.specs.Register.{ifAccepted, accepted, answerBy}
@@ -68,7 +68,7 @@ dailies-fit : (p : Period) (d : DayInput) (room : ℕ) → Admits p d room × (0
     → Every Fits64 (dailies (heldBy p) (accountsBrought p d))
 dailies-fit p d room (s, t) = every-weaken Few Fits64 (λ x few. omega arith) (dailies (heldBy p) (accountsBrought p d)) (written-few s t)
 
-day-figures-fit : (p : Period) (d : DayInput) (room : ℕ) → Admits p d room × (0 < total (heldBy p) (accountsBrought p d)) → Every Fits64 (total (heldBy p) (accountsBrought p d) ∷ maxEul (heldBy p) (accountsBrought p d) ∷ [])
+day-figures-fit : (p : Period) (d : DayInput) (room : ℕ) → Admits p d room × (0 < total (heldBy p) (accountsBrought p d)) → Every Fits64 (total (heldBy p) (accountsBrought p d) ∷ ownMaxEul (heldBy p) (accountsBrought p d) ∷ [])
 day-figures-fit p d room (s, t) =
     (omega (arith, total-few s), (omega (arith, total-few s, max-le-total (heldBy p) (accountsBrought p d)), tt))
 
@@ -210,7 +210,7 @@ makes p (Asked.opening o) =
 makes p (Asked.day d out) =
     let x = dayRow p d (length out) in
     let accts = accountsBrought p d in
-    let sized = says.Sized (total (heldBy p) accts) (maxEul (heldBy p) accts) in
+    let sized = says.Sized (total (heldBy p) accts) (ownMaxEul (heldBy p) accts) in
     let r : Reply = record { outcome = outcomeBy x sized; period = ifAccepted x (sizedPeriod p d) p } in
     (r, ifAccepted x (dailies (heldBy p) accts) out, record { answer = answered x _ _ refl; period = refl; buffer = refl })
 makes p (Asked.closing out) =

@@ -10,7 +10,7 @@ use Rattle.numbers.proofs.Lists.{range-mem, table-at}
 use Rattle.methodology.specs.declared.Opening.{Opening}
 use Rattle.methodology.specs.Account.{Account}
 use Rattle.methodology.specs.Member.{loss}
-use Rattle.methodology.specs.Day.{total, maxEul}
+use Rattle.methodology.specs.Day.{total, ownMaxEul}
 use Rattle.validation.specs.Slices.{Lent}
 use Rattle.exposure.specs.declared.day.Losses.{Losses}
 use Rattle.exposure.specs.MemberCut.{Owners}
@@ -31,5 +31,5 @@ module _ (o : Opening) (accts : List Account) {holders kinds : List ℕ} {npvs :
   pub loss-part : (i : ℕ) → i < o .n → getD (r .each) i 0 ≤ r .total
   loss-part i l = rw (loss-at i l, total-is) (loss-le-total o accts {m = 1 + i} (range-mem 1 (o .n) (omega arith) (omega arith)))
 
-  pub top-part : (top : ℕ) → top ≡ maxEul o accts → top ≤ r .total
+  pub top-part : (top : ℕ) → top ≡ ownMaxEul o accts → top ≤ r .total
   top-part top e = rw (e, total-is) (max-le-total o accts)

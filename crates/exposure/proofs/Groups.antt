@@ -17,7 +17,7 @@ use Rattle.numbers.proofs.Sums.{Σℤ-snoc, greatest-le, greatest-elem}
 use Rattle.methodology.specs.declared.Opening.{Opening}
 use Rattle.methodology.specs.Account.{Account, members, scenarios}
 use Rattle.methodology.specs.Member.{memberUnder}
-use Rattle.methodology.specs.Day.{groupNumber, groupOf, groupSum, maxEul}
+use Rattle.methodology.specs.Day.{groupNumber, groupOf, groupSum, ownMaxEul}
 
 -- group g's row at scenario j when the first i members have been added: the sum of their EULs under j, of those in group g
 unfoldable pub rowUpto : Opening → List Account → (i g j : ℕ) → ℤ
@@ -88,11 +88,11 @@ module _ (o : Opening) (accts : List Account) where
           omega (arith, ap ofRow same, greatest-elem ofGroup i)
 
   pub max-by-rows : (most : ℕ) → ((m : ℕ) → m ∈ members (o .n) → groupNumber o m ≤ most)
-      → maxEul o accts
+      → ownMaxEul o accts
       ≡ max
       (greatest (members (o .n)) (λ m. greatest (scenarios (o .k)) (λ j. memberUnder accts m j ⁺)))
       (greatest (range 1 most) (λ g. greatest (scenarios (o .k)) (λ j. groupRow o accts g j ⁺)))
-  unfolding maxEul
+  unfolding ownMaxEul
   max-by-rows most h =
       omega (
         arith,

@@ -12,7 +12,7 @@ use Rattle.numbers.proofs.Sums.{Σ-elem, Σ-mono, Σ-keep-le, Σℤ-⁺, greate
 use Rattle.methodology.specs.declared.Opening.{Opening}
 use Rattle.methodology.specs.Account.{Account, members, scenarios}
 use Rattle.methodology.specs.Member.{memberUnder, loss}
-use Rattle.methodology.specs.Day.{groupNumber, groupOf, groupSum, maxEul, total}
+use Rattle.methodology.specs.Day.{groupNumber, groupOf, groupSum, ownMaxEul, total}
 use Rattle.exposure.proofs.Monotone.{loss-le}
 
 -- a figure summed over a member's group is at most the sum over all members
@@ -42,8 +42,8 @@ module _ (o : Opening) (accts : List Account) where
         group-part o (loss (o .k) accts) i,
       )
 
-  pub max-le-total : maxEul o accts ≤ total o accts
-  unfolding maxEul
+  pub max-le-total : ownMaxEul o accts ≤ total o accts
+  unfolding ownMaxEul
   max-le-total =
       omega (
         arith,

@@ -8,7 +8,7 @@ use Rattle.numbers.specs.Sums.{Σ}
 use Rattle.methodology.specs.declared.Opening.{Opening}
 use Rattle.methodology.specs.Account.{Account, members, eulUnder}
 use Rattle.methodology.specs.Member.{memberEul, loss}
-use Rattle.methodology.specs.Day.{maxEul}
+use Rattle.methodology.specs.Day.{ownMaxEul}
 use Rattle.methodology.specs.Refusals.{limit}
 use Rattle.validation.specs.Slices.{listed, Lent, Within, Rising}
 use Rattle.exposure.specs.declared.day.Losses.{Losses}
@@ -47,7 +47,7 @@ pub record Grouped (o : Opening) : Type 0 where
 
 -- Max EUL
 pub record MaxIs (o : Opening) (holders kinds : List ℕ) (npvs : List ℤ) (margins extras : List ℕ) (r : ℕ) : Type 0 where
-  pub is : (accts : List Account) → Lent (o .k) kinds npvs margins extras accts → Owners holders accts → r ≡ maxEul (listed o) accts
+  pub is : (accts : List Account) → Lent (o .k) kinds npvs margins extras accts → Owners holders accts → r ≡ ownMaxEul (listed o) accts
 
 -- a day's own figures
 pub record FiguresAre (o : Opening) (holders kinds : List ℕ) (npvs : List ℤ) (margins extras : List ℕ) (r : Figures) : Type 0 where

@@ -111,7 +111,7 @@ fn member_losses(
 
 // The greatest of 0, all members' EULs and all group sums, under all scenarios. "Every scenario is added up for itself, in an array of
 // group rows by scenario."
-pub fn max_eul(
+pub fn own_max_eul(
     opening: Opening,
     members: &[u64],
     kinds: &[u64],
@@ -159,6 +159,6 @@ pub fn day_figures(
     let n = opening.n as usize;
     let k = opening.k as usize;
     let losses = member_losses(members, kinds, npvs, margins, extras, n, k);
-    let top = max_eul(opening, members, kinds, npvs, margins, extras);
+    let top = own_max_eul(opening, members, kinds, npvs, margins, extras);
     Figures { losses, top }
 }

@@ -1,21 +1,21 @@
 -- Document 01, "Figures to hold it to": cases 1 to 10 as one table, and one theorem: each figure that the definitions give is the one due.
--- By computation. Every case starts from accounts in a day's slices; 9 and 10 go through the calls of a period. Then, beyond document 01,
--- what its figures leave open: a whole month, exact charges, allowances and shortfalls, and words that no answer shows.
+-- By computation. Every case starts from accounts in a day's slices; 1, 2, 9 and 10 go through the calls of a period. Then, beyond document
+-- 01, what its figures leave open: a whole month, exact charges, allowances and shortfalls, and words that no answer shows.
 use mathlib.Core.Path.{_≡_, refl}
 use mathlib.Core.List.{List, [], _∷_, _++_, map}
 use Prim.Native.Nat.{ℕ, suc, _+_, _-_, _*_, _<_, min}
 use native.Mathlib.Omega.{arith}
 use lib.Dec.{ltb}
 use lib.IntN.{ℤ, pos}
-use lib.ListN.{length, getD}
+use lib.ListN.{length, getD, replicate}
 use Rattle.numbers.specs.Fractions.{Fraction, _over_, Proper, _≼_, _≺_}
 use Rattle.numbers.specs.Lists.{range, Every, firstWhere}
 use Rattle.methodology.specs.declared.Opening.{Opening}
 use Rattle.methodology.specs.Account.{DayInput, members, accounts, nobody, headingAt}
 use Rattle.methodology.specs.Member.{memberUnder, memberOwn}
-use Rattle.methodology.specs.Day.{total, maxEul, dailies}
+use Rattle.methodology.specs.Day.{ownMaxEul}
 use Rattle.methodology.specs.Contribution.{KeptDay, charge, exactCharge, allowance, shortfall}
-use Rattle.methodology.specs.Register.{Register, start, opening, day, closing, step, buffer}
+use Rattle.methodology.specs.Register.{Register, start, opening, day, closing, step, returned, written, buffer}
 use Rattle.methodology.proofs.Samples.{computed, H, R, A, U, Line, acct, minus, losing, houses, clients, dayOf, opening-of}
 
 -- a case: the figures that the definitions give, and those that document 01 has
@@ -48,16 +48,16 @@ illustrative margin =
     ∷ acct 6 0 H (pos 400) 200 0 (pos 0 ∷ [])
     ∷ [])
 
--- of these T, Max EUL, and one after another the given columns of what the day writes
+-- of these, as the first day of a period, T, Max EUL, and one after another the given columns of what the day writes
 abbrev columns : List ℕ → (out : List ℕ) → List ℕ
 columns [] out = []
 columns (c ∷ cs) out = map (λ m. getD out (5 * (m - 1) + c) 0) (members 6) ++ columns cs out
 
 abbrev illustrated : (margin : ℕ) → (cs : List ℕ) → List ℕ
 illustrated margin cs =
-    let o = groups (0 ∷ 0 ∷ 0 ∷ 0 ∷ 0 ∷ 0 ∷ []) in
-    let accts = accounts 1 (illustrative margin) in
-    total o accts ∷ maxEul o accts ∷ columns cs (dailies o accts)
+    let call = day (illustrative margin) 30 in
+    let after = step (step start (opening (groups (0 ∷ 0 ∷ 0 ∷ 0 ∷ 0 ∷ 0 ∷ [])))) call in
+    returned after call ++ columns cs (written after call)
 
 -- member 1's EUL under the one scenario and its own, from its house EUL and its clients
 abbrev member-euls : (house : ℤ) → List (ℕ × ℤ) → List ℤ
@@ -65,8 +65,9 @@ member-euls house cs =
     let accts = accounts 1 (dayOf 1 (losing 1 0 H house ∷ clients 1 cs)) in
     memberUnder accts 1 1 ∷ memberOwn 1 accts 1 ∷ []
 
+-- a day's own Max EUL
 abbrev max-of : Opening → List Line → List ℕ
-max-of o lines = maxEul o (accounts (o .k) (dayOf 1 lines)) ∷ []
+max-of o lines = ownMaxEul o (accounts (o .k) (dayOf 1 lines)) ∷ []
 
 -- what the closing writes of a period without groups whose members' losses on days 1, 2, .. are given
 abbrev days-from : (number : ℕ) → Register → List (List ℤ) → Register
@@ -133,6 +134,17 @@ month-of-31 = map (λ i. pos (i * 1000000) ∷ pos ((33 - i) * 1000000) ∷ []) 
 pub whole-month : closed (groups (0 ∷ 0 ∷ [])) month-of-31 ≡ 17066667 ∷ 50000000 ∷ 100000000 ∷ 18133334 ∷ 50000000 ∷ 100000000 ∷ []
 unfolding computed
 whole-month = refl
+
+-- The Max EULs that these days report (document 02, Change 3). Their own fall from 32 to 17 million and rise to 31 again.
+abbrev reported-from : (number : ℕ) → Register → List (List ℤ) → List ℕ
+reported-from number g [] = []
+reported-from number g (es ∷ ess) =
+    let call = day (dayOf number (houses 1 es)) (5 * g .held .n) in
+    getD (returned (step g call) call) 1 0 ∷ reported-from (suc number) (step g call) ess
+
+pub whole-month-reports : reported-from 1 (step start (opening (groups (0 ∷ 0 ∷ [])))) month-of-31 ≡ replicate 31 32000000
+unfolding computed
+whole-month-reports = refl
 
 -- what demand 3 holds cases 9 and 10 to, with nothing rounded: a fraction is p over q where its cross products agree and its denominator is
 -- above 0

@@ -12,8 +12,8 @@ use Rattle.methodology.specs.declared.Heading.{Heading}
 use Rattle.methodology.specs.declared.Opening.{Opening}
 use Rattle.methodology.specs.Account.{DayInput, accountAt, accounts, decrease, eulOf, eulUnder, largestDecrease, ownEul}
 use Rattle.methodology.specs.Member.{accountsOf, houseEul, halfOfClients, twoLargestOfR, partB, partC, memberEul, memberUnder, memberOwn, loss}
-use Rattle.methodology.specs.Day.{total, groupOf, groupSum, maxEul, share, value, reserve, estimate, five, dailies}
-use Rattle.methodology.specs.Contribution.{highest, sumOfShares, charge, raw, funded, unfunded, exactCharge, shortfall, allowance, three, contributions, totalFunded}
+use Rattle.methodology.specs.Day.{total, groupOf, groupSum, ownMaxEul, share, value, reserve, estimate, five, dailies}
+use Rattle.methodology.specs.Contribution.{reportedMaxEul, highest, sumOfShares, charge, raw, funded, unfunded, exactCharge, shortfall, allowance, three, contributions, totalFunded}
 use Rattle.methodology.specs.Refusals.{
   row_when_else_,
   row_at_when_else_,
@@ -35,7 +35,7 @@ use Rattle.methodology.specs.Register.{Register, Call, opening, day, clo
 
 -- Who unfolds this unfolds every definition on its line, so that the examples compute.
 unfoldable pub computed : Unit {0}
-unfolding flatMap range keep any firstWhere insert descending Σ Σℤ greatest Σᶠ ceilDiv roundDiv accountAt accounts decrease eulOf eulUnder largestDecrease ownEul accountsOf houseEul halfOfClients twoLargestOfR partB partC memberEul memberUnder memberOwn loss total groupOf groupSum maxEul share value reserve estimate five dailies highest sumOfShares charge raw funded unfunded exactCharge shortfall allowance three contributions totalFunded row_when_else_ row_at_when_else_ rows-of_else_ badOpening openingRefusal badDayNumber badHeading firstBadHeading lastMissing badAmount accountRows dayRows beforeFigures dayRefusal closingRefusal refusal accept step returned written answer buffer
+unfolding flatMap range keep any firstWhere insert descending Σ Σℤ greatest Σᶠ ceilDiv roundDiv accountAt accounts decrease eulOf eulUnder largestDecrease ownEul accountsOf houseEul halfOfClients twoLargestOfR partB partC memberEul memberUnder memberOwn loss total groupOf groupSum ownMaxEul share value reserve estimate five dailies reportedMaxEul highest sumOfShares charge raw funded unfunded exactCharge shortfall allowance three contributions totalFunded row_when_else_ row_at_when_else_ rows-of_else_ badOpening openingRefusal badDayNumber badHeading firstBadHeading lastMissing badAmount accountRows dayRows beforeFigures dayRefusal closingRefusal refusal accept step returned written answer buffer
 computed = tt
 
 -- "Kinds: H (0) house; R (1) [..]; A (2) [..]; U (3) [..]": document 01's numbers, and not the definitions', which the examples hold.

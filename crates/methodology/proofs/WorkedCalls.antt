@@ -1,5 +1,5 @@
--- Calls worked by the register: document 01's printed month; M on each of three days; months that have not begun; a period whose calls meet
--- every condition of the refusal table from both sides, and every pair of its order of precedence. One table, one theorem: each answer, and
+-- Calls worked by the register: document 01's printed month; M on each of three days; a month whose Max EULs fall and rise; months that have
+-- not begun; a period whose calls meet every condition of the refusal table from both sides, and every pair of its order of precedence. One table, one theorem: each answer, and
 -- each number left in a buffer, is the one due. By computation. The figures were worked out from the documents by a recalculation of its
 -- own. The largest periods are in WorkedLimits.antt.
 use mathlib.Core.Path.{_≡_, refl}
@@ -53,6 +53,21 @@ least number =
     writing (70000000 ∷ 700000000000 ∷ 4900000000 ∷ 5390000000 ∷ 10780000000
     ∷ 30000000 ∷ 300000000000 ∷ 2100000000 ∷ 2310000000 ∷ 4620000000 ∷ [])
 
+-- after the worst they report its Max EUL, by which their cents go; the least one's T is below it (document 02, Change 3)
+abbrev middling-after : (number : ℕ) → Exchange
+middling-after number =
+    losses number (100000000 ∷ 300000000 ∷ [])
+    gets accepted (400000000 ∷ 400000000 ∷ [])
+    writing (100000000 ∷ 250000000000 ∷ 10000000000 ∷ 11000000000 ∷ 22000000000
+    ∷ 300000000 ∷ 750000000000 ∷ 30000000000 ∷ 33000000000 ∷ 66000000000 ∷ [])
+
+abbrev least-after : (number : ℕ) → Exchange
+least-after number =
+    losses number (70000000 ∷ 30000000 ∷ [])
+    gets accepted (100000000 ∷ 400000000 ∷ [])
+    writing (70000000 ∷ 700000000000 ∷ 28000000000 ∷ 30800000000 ∷ 61600000000
+    ∷ 30000000 ∷ 300000000000 ∷ 12000000000 ∷ 13200000000 ∷ 26400000000 ∷ [])
+
 -- the period of these days, in any order: D, M and both charges are the same
 abbrev three-days : (first second third : ℕ → Exchange) → List Exchange
 three-days first second third =
@@ -61,6 +76,58 @@ three-days first second third =
     ∷ closing 6
     gets accepted (3 ∷ 400000000 ∷ 440000001 ∷ [])
     writing (237111112 ∷ 237111112 ∷ 474222224 ∷ 202888889 ∷ 202888889 ∷ 405777778 ∷ [])
+    ∷ []
+
+-- ---- the highest so far (document 02, Change 3)
+
+-- Own Max EULs of 50, 80, 30, 60, 5, 90 and 2: what is reported never falls. Refused calls between them, days that would raise it among
+-- them, leave it alone, and so do a refused opening and a refused closing.
+abbrev so-far : List Exchange
+so-far =
+    brings 2 1 (0 ∷ 0 ∷ []) gets accepted []
+    ∷ losses 3 (50 ∷ 30 ∷ [])
+    gets accepted (80 ∷ 50 ∷ [])
+    writing (50 ∷ 625000000000 ∷ 3125 ∷ 3438 ∷ 6875 ∷ 30 ∷ 375000000000 ∷ 1875 ∷ 2063 ∷ 4125 ∷ [])
+    ∷ losses 5 (80 ∷ 20 ∷ [])
+    gets accepted (100 ∷ 80 ∷ [])
+    writing (80 ∷ 800000000000 ∷ 6400 ∷ 7040 ∷ 14080 ∷ 20 ∷ 200000000000 ∷ 1600 ∷ 1760 ∷ 3520 ∷ [])
+    ∷ losses 5 (990 ∷ 10 ∷ []) gets refused 3
+    ∷ losses 32 (990 ∷ 10 ∷ []) gets refused 3
+    ∷ day (dayOf 6 (houses 1 (pos 990 ∷ pos 10 ∷ []))) 9 gets refused 4
+    ∷ losses 6 (990 ∷ []) gets refused 4
+    ∷ day (dayOf 6 (houses 1 (pos 990 ∷ []))) 10 gets refusedAt 5 1
+    ∷ losses 6 (1000000000001 ∷ 10 ∷ []) gets refusedAt 6 0
+    ∷ brings 2 1 (0 ∷ 0 ∷ []) gets refused 2
+    ∷ closing 5 gets refused 4
+    ∷ losses 6 (20 ∷ 30 ∷ [])
+    gets accepted (50 ∷ 80 ∷ [])
+    writing (20 ∷ 400000000000 ∷ 3200 ∷ 3520 ∷ 7040 ∷ 30 ∷ 600000000000 ∷ 4800 ∷ 5280 ∷ 10560 ∷ [])
+    ∷ losses 9 (60 ∷ 10 ∷ [])
+    gets accepted (70 ∷ 80 ∷ [])
+    writing (60 ∷ 857142857143 ∷ 6857 ∷ 7543 ∷ 15086 ∷ 10 ∷ 142857142858 ∷ 1143 ∷ 1257 ∷ 2514 ∷ [])
+    ∷ losses 10 (5 ∷ 0 ∷ [])
+    gets accepted (5 ∷ 80 ∷ [])
+    writing (5 ∷ 1000000000000 ∷ 8000 ∷ 8800 ∷ 17600 ∷ 0 ∷ 0 ∷ 0 ∷ 0 ∷ 0 ∷ [])
+    ∷ losses 20 (70 ∷ 90 ∷ [])
+    gets accepted (160 ∷ 90 ∷ [])
+    writing (70 ∷ 437500000000 ∷ 3938 ∷ 4331 ∷ 8663 ∷ 90 ∷ 562500000000 ∷ 5063 ∷ 5569 ∷ 11138 ∷ [])
+    ∷ losses 31 (1 ∷ 2 ∷ [])
+    gets accepted (3 ∷ 90 ∷ [])
+    writing (1 ∷ 333333333334 ∷ 3000 ∷ 3300 ∷ 6600 ∷ 2 ∷ 666666666667 ∷ 6000 ∷ 6600 ∷ 13200 ∷ [])
+    ∷ closing 6 gets accepted (7 ∷ 90 ∷ 100000000 ∷ []) writing (63 ∷ 50000000 ∷ 100000000 ∷ 37 ∷ 50000000 ∷ 100000000 ∷ [])
+    ∷ []
+
+-- After it an opening begins anew: of the 90 nothing is left in what days report, nor in M.
+abbrev so-far-again : List Exchange
+so-far-again =
+    brings 2 1 (0 ∷ 0 ∷ []) gets accepted []
+    ∷ losses 1 (3 ∷ 1 ∷ [])
+    gets accepted (4 ∷ 3 ∷ [])
+    writing (3 ∷ 750000000000 ∷ 225 ∷ 248 ∷ 495 ∷ 1 ∷ 250000000000 ∷ 75 ∷ 83 ∷ 165 ∷ [])
+    ∷ losses 2 (2 ∷ 2 ∷ [])
+    gets accepted (4 ∷ 3 ∷ [])
+    writing (2 ∷ 500000000000 ∷ 150 ∷ 165 ∷ 330 ∷ 2 ∷ 500000000000 ∷ 150 ∷ 165 ∷ 330 ∷ [])
+    ∷ closing 6 gets accepted (2 ∷ 3 ∷ 100000000 ∷ []) writing (3 ∷ 50000000 ∷ 100000000 ∷ 2 ∷ 50000000 ∷ 100000000 ∷ [])
     ∷ []
 
 -- ---- months that have not begun (document 02, Change 2)
@@ -107,31 +174,32 @@ not-begun-again =
     ∷ []
 
 -- five days; M is the first one's, or the last one's where they come the other way round
-abbrev five-days : List (ℕ → Exchange)
-five-days =
-    (λ number.
-    losses number (10 ∷ 10 ∷ [])
+abbrev first-of-five : List Exchange
+first-of-five =
+    losses 1 (10 ∷ 10 ∷ [])
     gets accepted (20 ∷ 10 ∷ [])
-    writing (10 ∷ 500000000000 ∷ 500 ∷ 550 ∷ 1100 ∷ 10 ∷ 500000000000 ∷ 500 ∷ 550 ∷ 1100 ∷ []))
-    ∷ (λ number. losses number (4 ∷ 6 ∷ []) gets accepted (10 ∷ 6 ∷ []) writing (4 ∷ 400000000000 ∷ 240 ∷ 264 ∷ 528 ∷ 6 ∷ 600000000000 ∷ 360 ∷ 396 ∷ 792 ∷ []))
-    ∷ (λ number. losses number (3 ∷ 7 ∷ []) gets accepted (10 ∷ 7 ∷ []) writing (3 ∷ 300000000000 ∷ 210 ∷ 231 ∷ 462 ∷ 7 ∷ 700000000000 ∷ 490 ∷ 539 ∷ 1078 ∷ []))
-    ∷ (λ number. losses number (1 ∷ 9 ∷ []) gets accepted (10 ∷ 9 ∷ []) writing (1 ∷ 100000000000 ∷ 90 ∷ 99 ∷ 198 ∷ 9 ∷ 900000000000 ∷ 810 ∷ 891 ∷ 1782 ∷ []))
-    ∷ (λ number. losses number (7 ∷ 2 ∷ []) gets accepted (9 ∷ 7 ∷ []) writing (7 ∷ 777777777778 ∷ 544 ∷ 599 ∷ 1198 ∷ 2 ∷ 222222222223 ∷ 156 ∷ 171 ∷ 342 ∷ []))
+    writing (10 ∷ 500000000000 ∷ 500 ∷ 550 ∷ 1100 ∷ 10 ∷ 500000000000 ∷ 500 ∷ 550 ∷ 1100 ∷ [])
+    ∷ losses 2 (4 ∷ 6 ∷ []) gets accepted (10 ∷ 10 ∷ []) writing (4 ∷ 400000000000 ∷ 400 ∷ 440 ∷ 880 ∷ 6 ∷ 600000000000 ∷ 600 ∷ 660 ∷ 1320 ∷ [])
+    ∷ losses 3 (3 ∷ 7 ∷ []) gets accepted (10 ∷ 10 ∷ []) writing (3 ∷ 300000000000 ∷ 300 ∷ 330 ∷ 660 ∷ 7 ∷ 700000000000 ∷ 700 ∷ 770 ∷ 1540 ∷ [])
+    ∷ losses 4 (1 ∷ 9 ∷ []) gets accepted (10 ∷ 10 ∷ []) writing (1 ∷ 100000000000 ∷ 100 ∷ 110 ∷ 220 ∷ 9 ∷ 900000000000 ∷ 900 ∷ 990 ∷ 1980 ∷ [])
+    ∷ losses 5 (7 ∷ 2 ∷ []) gets accepted (9 ∷ 10 ∷ []) writing (7 ∷ 777777777778 ∷ 778 ∷ 856 ∷ 1711 ∷ 2 ∷ 222222222223 ∷ 222 ∷ 244 ∷ 489 ∷ [])
     ∷ []
 
--- the given days, numbered from the first on
-abbrev numbered : (first : ℕ) → List (ℕ → Exchange) → List Exchange
-numbered first [] = []
-numbered first (d ∷ ds) = d first ∷ numbered (suc first) ds
+abbrev last-of-five : List Exchange
+last-of-five =
+    losses 1 (7 ∷ 2 ∷ []) gets accepted (9 ∷ 7 ∷ []) writing (7 ∷ 777777777778 ∷ 544 ∷ 599 ∷ 1198 ∷ 2 ∷ 222222222223 ∷ 156 ∷ 171 ∷ 342 ∷ [])
+    ∷ losses 2 (1 ∷ 9 ∷ []) gets accepted (10 ∷ 9 ∷ []) writing (1 ∷ 100000000000 ∷ 90 ∷ 99 ∷ 198 ∷ 9 ∷ 900000000000 ∷ 810 ∷ 891 ∷ 1782 ∷ [])
+    ∷ losses 3 (3 ∷ 7 ∷ []) gets accepted (10 ∷ 9 ∷ []) writing (3 ∷ 300000000000 ∷ 270 ∷ 297 ∷ 594 ∷ 7 ∷ 700000000000 ∷ 630 ∷ 693 ∷ 1386 ∷ [])
+    ∷ losses 4 (4 ∷ 6 ∷ []) gets accepted (10 ∷ 9 ∷ []) writing (4 ∷ 400000000000 ∷ 360 ∷ 396 ∷ 792 ∷ 6 ∷ 600000000000 ∷ 540 ∷ 594 ∷ 1188 ∷ [])
+    ∷ losses 5 (10 ∷ 10 ∷ [])
+    gets accepted (20 ∷ 10 ∷ [])
+    writing (10 ∷ 500000000000 ∷ 500 ∷ 550 ∷ 1100 ∷ 10 ∷ 500000000000 ∷ 500 ∷ 550 ∷ 1100 ∷ [])
+    ∷ []
 
-abbrev backwards : List (ℕ → Exchange) → List (ℕ → Exchange)
-backwards [] = []
-backwards (d ∷ ds) = backwards ds ++ (d ∷ [])
-
-abbrev five-days-in : (days : List (ℕ → Exchange)) → List Exchange
-five-days-in days =
+abbrev five-days : (days : List Exchange) → List Exchange
+five-days days =
     brings 2 1 (0 ∷ 0 ∷ []) gets accepted []
-    ∷ numbered 1 days
+    ∷ days
     ++ (closing 6 gets accepted (5 ∷ 10 ∷ 100000000 ∷ []) writing (5 ∷ 50000000 ∷ 100000000 ∷ 7 ∷ 50000000 ∷ 100000000 ∷ []) ∷ [])
 
 -- ---- rounding, clients, the minimum
@@ -159,19 +227,19 @@ halves =
 abbrev of-one : (number : ℕ) → (house : ℤ) → List (ℕ × ℤ) → Call
 of-one number house cs = day (dayOf number (losing 1 0 H house ∷ clients 1 cs)) 5
 
--- negative EULs beside positive ones of the same kind, R in rising order, one R; five days, M the first one's
+-- negative EULs beside positive ones of the same kind, R in rising order, one R; five days, each with the highest Max EUL so far
 abbrev client-days : List Exchange
 client-days =
     brings 1 1 (0 ∷ []) gets accepted []
-    ∷ of-one 1 (pos 0) ((A, pos 10) ∷ (A, minus 4) ∷ (U, pos 20) ∷ (U, minus 6) ∷ [])
-    gets accepted (45 ∷ 45 ∷ [])
-    writing (45 ∷ 1000000000000 ∷ 4500 ∷ 4950 ∷ 9900 ∷ [])
-    ∷ of-one 2 (pos 0) ((A, pos 10) ∷ (A, minus 4) ∷ []) gets accepted (15 ∷ 15 ∷ []) writing (15 ∷ 1000000000000 ∷ 1500 ∷ 1650 ∷ 3300 ∷ [])
-    ∷ of-one 3 (pos 0) ((R, pos 5) ∷ (R, minus 3) ∷ []) gets accepted (5 ∷ 5 ∷ []) writing (5 ∷ 1000000000000 ∷ 500 ∷ 550 ∷ 1100 ∷ [])
+    ∷ of-one 1 (minus 1) ((R, pos 4) ∷ []) gets accepted (3 ∷ 3 ∷ []) writing (3 ∷ 1000000000000 ∷ 300 ∷ 330 ∷ 660 ∷ [])
+    ∷ of-one 2 (pos 0) ((R, pos 5) ∷ (R, minus 3) ∷ []) gets accepted (5 ∷ 5 ∷ []) writing (5 ∷ 1000000000000 ∷ 500 ∷ 550 ∷ 1100 ∷ [])
+    ∷ of-one 3 (pos 0) ((A, pos 10) ∷ (A, minus 4) ∷ []) gets accepted (15 ∷ 15 ∷ []) writing (15 ∷ 1000000000000 ∷ 1500 ∷ 1650 ∷ 3300 ∷ [])
     ∷ of-one 4 (minus 7) ((R, pos 10) ∷ (R, pos 20) ∷ (R, pos 30) ∷ [])
     gets accepted (43 ∷ 43 ∷ [])
     writing (43 ∷ 1000000000000 ∷ 4300 ∷ 4730 ∷ 9460 ∷ [])
-    ∷ of-one 5 (minus 1) ((R, pos 4) ∷ []) gets accepted (3 ∷ 3 ∷ []) writing (3 ∷ 1000000000000 ∷ 300 ∷ 330 ∷ 660 ∷ [])
+    ∷ of-one 5 (pos 0) ((A, pos 10) ∷ (A, minus 4) ∷ (U, pos 20) ∷ (U, minus 6) ∷ [])
+    gets accepted (45 ∷ 45 ∷ [])
+    writing (45 ∷ 1000000000000 ∷ 4500 ∷ 4950 ∷ 9900 ∷ [])
     ∷ closing 3 gets accepted (5 ∷ 45 ∷ 50000000 ∷ []) writing (50 ∷ 50000000 ∷ 100000000 ∷ [])
     ∷ []
 
@@ -402,7 +470,7 @@ while-open =
     ∷ on 5 (house 1 ∷ []) gets refused 3
     ∷ on 5 (with-amounts 1 (pos 1000000000001) 0 0 (pos 0) ∷ house 2 ∷ house 3 ∷ []) gets refused 3
     ∷ on 5 nothing-lost gets refused 3
-    ∷ on 6 hedged gets accepted (10 ∷ 0 ∷ []) writing (10 ∷ 1000000000000 ∷ 0 ∷ 0 ∷ 0 ∷ replicate 10 0)
+    ∷ on 6 hedged gets accepted (10 ∷ 136 ∷ []) writing (10 ∷ 1000000000000 ∷ 13600 ∷ 14960 ∷ 29920 ∷ replicate 10 0)
     ∷ on 31 extreme
     gets accepted (2000000000009 ∷ 2000000000000 ∷ [])
     writing (2000000000000 ∷ 999999999996 ∷ 199999999999100 ∷ 219999999999010 ∷ 439999999998020
@@ -506,28 +574,28 @@ every-kind =
     writing (97 ∷ 1000000000000 ∷ 9700 ∷ 10670 ∷ 21340 ∷ [])
     ∷ []
 
--- Two groups whose members are not next to each other. On day 1 Max EUL is member 3's, above the sum of its group, since its Affiliate is
--- covered; on day 2 it is the other group's sum.
+-- Two groups whose members are not next to each other. On day 1 Max EUL is the sum of the second group; on day 2 it is member 3's, above
+-- the sum of its group, since its Affiliate is covered.
 abbrev two-groups : List Exchange
 two-groups =
     brings 4 1 (7 ∷ 5 ∷ 7 ∷ 5 ∷ []) gets accepted []
     ∷ day
-    (dayOf 1 (losing 1 0 H (minus 30) ∷ losing 2 0 H (pos 20) ∷ losing 3 0 H (pos 100) ∷ losing 4 0 H (pos 60) ∷ []))
-    20
-    gets accepted (180 ∷ 100 ∷ [])
-    writing (0 ∷ 0 ∷ 0 ∷ 0 ∷ 0
-    ∷ 20 ∷ 111111111112 ∷ 1111 ∷ 1222 ∷ 2444
-    ∷ 100 ∷ 555555555556 ∷ 5556 ∷ 6111 ∷ 12222
-    ∷ 60 ∷ 333333333334 ∷ 3333 ∷ 3667 ∷ 7333
-    ∷ [])
-    ∷ day
-    (dayOf 2 (losing 1 0 H (pos 40) ∷ losing 2 0 H (pos 20) ∷ losing 3 0 H (pos 30) ∷ losing 4 0 H (pos 60) ∷ []))
+    (dayOf 1 (losing 1 0 H (pos 40) ∷ losing 2 0 H (pos 20) ∷ losing 3 0 H (pos 30) ∷ losing 4 0 H (pos 60) ∷ []))
     20
     gets accepted (150 ∷ 80 ∷ [])
     writing (40 ∷ 266666666667 ∷ 2133 ∷ 2347 ∷ 4693
     ∷ 20 ∷ 133333333334 ∷ 1067 ∷ 1173 ∷ 2347
     ∷ 30 ∷ 200000000000 ∷ 1600 ∷ 1760 ∷ 3520
     ∷ 60 ∷ 400000000000 ∷ 3200 ∷ 3520 ∷ 7040
+    ∷ [])
+    ∷ day
+    (dayOf 2 (losing 1 0 H (minus 30) ∷ losing 2 0 H (pos 20) ∷ losing 3 0 H (pos 100) ∷ losing 4 0 H (pos 60) ∷ []))
+    20
+    gets accepted (180 ∷ 100 ∷ [])
+    writing (0 ∷ 0 ∷ 0 ∷ 0 ∷ 0
+    ∷ 20 ∷ 111111111112 ∷ 1111 ∷ 1222 ∷ 2444
+    ∷ 100 ∷ 555555555556 ∷ 5556 ∷ 6111 ∷ 12222
+    ∷ 60 ∷ 333333333334 ∷ 3333 ∷ 3667 ∷ 7333
     ∷ [])
     ∷ closing 12
     gets accepted (2 ∷ 100 ∷ 200000000 ∷ [])
@@ -562,15 +630,16 @@ last-of-four =
 pub lists : List (List Exchange)
 lists =
     printed
-    ∷ three-days worst middling least
-    ∷ three-days middling worst least
+    ∷ three-days worst middling-after least-after
+    ∷ three-days middling worst least-after
     ∷ three-days least middling worst
+    ∷ (so-far ++ so-far-again)
     ∷ not-begun
     ∷ not-begun-again
     ∷ hedged-alone
     ∷ (while-fresh ++ (while-open ++ while-closed))
-    ∷ five-days-in five-days
-    ∷ five-days-in (backwards five-days)
+    ∷ five-days first-of-five
+    ∷ five-days last-of-five
     ∷ client-days
     ∷ every-kind
     ∷ two-groups

@@ -241,11 +241,15 @@ texts =
     -- a first word that goes on
     ∷ ("period\t1\t1\nmember\t1\t0\nday\t3\t1\nacctx\t1\t0\tH\t10\t0\t0\t0\nend\n" gives "refused\t9\t4\n")
     -- M on the first of three days
-    ∷ ("period\t2\t1\nmember\t1\t0\nmember\t2\t0\nday\t1\t2\nacct\t1\t0\tH\t400000000\t0\t0\t0\nacct\t2\t0\tH\t200000000\t0\t0\t0\nday\t2\t2\nacct\t1\t0\tH\t100000000\t0\t0\t0\nacct\t2\t0\tH\t300000000\t0\t0\t0\nday\t3\t2\nacct\t1\t0\tH\t70000000\t0\t0\t0\nacct\t2\t0\tH\t30000000\t0\t0\t0\nend\n" gives "day\t1\t600000000\t400000000\ndaily\t1\t400000000\t666666666667\t26666666667\t29333333333\t58666666667\ndaily\t2\t200000000\t333333333334\t13333333333\t14666666667\t29333333333\ntotal\t600000000\t1000000000001\t40000000000\t44000000000\t88000000000\nday\t2\t400000000\t300000000\ndaily\t1\t100000000\t250000000000\t7500000000\t8250000000\t16500000000\ndaily\t2\t300000000\t750000000000\t22500000000\t24750000000\t49500000000\ntotal\t400000000\t1000000000000\t30000000000\t33000000000\t66000000000\nday\t3\t100000000\t70000000\ndaily\t1\t70000000\t700000000000\t4900000000\t5390000000\t10780000000\ndaily\t2\t30000000\t300000000000\t2100000000\t2310000000\t4620000000\ntotal\t100000000\t1000000000000\t7000000000\t7700000000\t15400000000\nfund\t3\t400000000\t440000001\ncontribution\t1\t237111112\t237111112\t474222224\ncontribution\t2\t202888889\t202888889\t405777778\n")
+    ∷ ("period\t2\t1\nmember\t1\t0\nmember\t2\t0\nday\t1\t2\nacct\t1\t0\tH\t400000000\t0\t0\t0\nacct\t2\t0\tH\t200000000\t0\t0\t0\nday\t2\t2\nacct\t1\t0\tH\t100000000\t0\t0\t0\nacct\t2\t0\tH\t300000000\t0\t0\t0\nday\t3\t2\nacct\t1\t0\tH\t70000000\t0\t0\t0\nacct\t2\t0\tH\t30000000\t0\t0\t0\nend\n" gives "day\t1\t600000000\t400000000\ndaily\t1\t400000000\t666666666667\t26666666667\t29333333333\t58666666667\ndaily\t2\t200000000\t333333333334\t13333333333\t14666666667\t29333333333\ntotal\t600000000\t1000000000001\t40000000000\t44000000000\t88000000000\nday\t2\t400000000\t400000000\ndaily\t1\t100000000\t250000000000\t10000000000\t11000000000\t22000000000\ndaily\t2\t300000000\t750000000000\t30000000000\t33000000000\t66000000000\ntotal\t400000000\t1000000000000\t40000000000\t44000000000\t88000000000\nday\t3\t100000000\t400000000\ndaily\t1\t70000000\t700000000000\t28000000000\t30800000000\t61600000000\ndaily\t2\t30000000\t300000000000\t12000000000\t13200000000\t26400000000\ntotal\t100000000\t1000000000000\t40000000000\t44000000000\t88000000000\nfund\t3\t400000000\t440000001\ncontribution\t1\t237111112\t237111112\t474222224\ncontribution\t2\t202888889\t202888889\t405777778\n")
     -- M on the second of three days
-    ∷ ("period\t2\t1\nmember\t1\t0\nmember\t2\t0\nday\t1\t2\nacct\t1\t0\tH\t100000000\t0\t0\t0\nacct\t2\t0\tH\t300000000\t0\t0\t0\nday\t2\t2\nacct\t1\t0\tH\t400000000\t0\t0\t0\nacct\t2\t0\tH\t200000000\t0\t0\t0\nday\t3\t2\nacct\t1\t0\tH\t70000000\t0\t0\t0\nacct\t2\t0\tH\t30000000\t0\t0\t0\nend\n" gives "day\t1\t400000000\t300000000\ndaily\t1\t100000000\t250000000000\t7500000000\t8250000000\t16500000000\ndaily\t2\t300000000\t750000000000\t22500000000\t24750000000\t49500000000\ntotal\t400000000\t1000000000000\t30000000000\t33000000000\t66000000000\nday\t2\t600000000\t400000000\ndaily\t1\t400000000\t666666666667\t26666666667\t29333333333\t58666666667\ndaily\t2\t200000000\t333333333334\t13333333333\t14666666667\t29333333333\ntotal\t600000000\t1000000000001\t40000000000\t44000000000\t88000000000\nday\t3\t100000000\t70000000\ndaily\t1\t70000000\t700000000000\t4900000000\t5390000000\t10780000000\ndaily\t2\t30000000\t300000000000\t2100000000\t2310000000\t4620000000\ntotal\t100000000\t1000000000000\t7000000000\t7700000000\t15400000000\nfund\t3\t400000000\t440000001\ncontribution\t1\t237111112\t237111112\t474222224\ncontribution\t2\t202888889\t202888889\t405777778\n")
+    ∷ ("period\t2\t1\nmember\t1\t0\nmember\t2\t0\nday\t1\t2\nacct\t1\t0\tH\t100000000\t0\t0\t0\nacct\t2\t0\tH\t300000000\t0\t0\t0\nday\t2\t2\nacct\t1\t0\tH\t400000000\t0\t0\t0\nacct\t2\t0\tH\t200000000\t0\t0\t0\nday\t3\t2\nacct\t1\t0\tH\t70000000\t0\t0\t0\nacct\t2\t0\tH\t30000000\t0\t0\t0\nend\n" gives "day\t1\t400000000\t300000000\ndaily\t1\t100000000\t250000000000\t7500000000\t8250000000\t16500000000\ndaily\t2\t300000000\t750000000000\t22500000000\t24750000000\t49500000000\ntotal\t400000000\t1000000000000\t30000000000\t33000000000\t66000000000\nday\t2\t600000000\t400000000\ndaily\t1\t400000000\t666666666667\t26666666667\t29333333333\t58666666667\ndaily\t2\t200000000\t333333333334\t13333333333\t14666666667\t29333333333\ntotal\t600000000\t1000000000001\t40000000000\t44000000000\t88000000000\nday\t3\t100000000\t400000000\ndaily\t1\t70000000\t700000000000\t28000000000\t30800000000\t61600000000\ndaily\t2\t30000000\t300000000000\t12000000000\t13200000000\t26400000000\ntotal\t100000000\t1000000000000\t40000000000\t44000000000\t88000000000\nfund\t3\t400000000\t440000001\ncontribution\t1\t237111112\t237111112\t474222224\ncontribution\t2\t202888889\t202888889\t405777778\n")
     -- M on the last of three days
     ∷ ("period\t2\t1\nmember\t1\t0\nmember\t2\t0\nday\t1\t2\nacct\t1\t0\tH\t70000000\t0\t0\t0\nacct\t2\t0\tH\t30000000\t0\t0\t0\nday\t2\t2\nacct\t1\t0\tH\t100000000\t0\t0\t0\nacct\t2\t0\tH\t300000000\t0\t0\t0\nday\t3\t2\nacct\t1\t0\tH\t400000000\t0\t0\t0\nacct\t2\t0\tH\t200000000\t0\t0\t0\nend\n" gives "day\t1\t100000000\t70000000\ndaily\t1\t70000000\t700000000000\t4900000000\t5390000000\t10780000000\ndaily\t2\t30000000\t300000000000\t2100000000\t2310000000\t4620000000\ntotal\t100000000\t1000000000000\t7000000000\t7700000000\t15400000000\nday\t2\t400000000\t300000000\ndaily\t1\t100000000\t250000000000\t7500000000\t8250000000\t16500000000\ndaily\t2\t300000000\t750000000000\t22500000000\t24750000000\t49500000000\ntotal\t400000000\t1000000000000\t30000000000\t33000000000\t66000000000\nday\t3\t600000000\t400000000\ndaily\t1\t400000000\t666666666667\t26666666667\t29333333333\t58666666667\ndaily\t2\t200000000\t333333333334\t13333333333\t14666666667\t29333333333\ntotal\t600000000\t1000000000001\t40000000000\t44000000000\t88000000000\nfund\t3\t400000000\t440000001\ncontribution\t1\t237111112\t237111112\t474222224\ncontribution\t2\t202888889\t202888889\t405777778\n")
+    -- Max EULs of its own that fall and rise again, one of them 0
+    ∷ ("period\t2\t2\nmember\t1\t0\nmember\t2\t0\nday\t2\t3\nacct\t1\t0\tH\t0\t0\t0\t0\t0\nacct\t1\t1\tR\t0\t0\t0\t0\t0\nacct\t2\t0\tH\t0\t0\t0\t-50\t-30\nday\t3\t3\nacct\t1\t0\tH\t0\t0\t0\t0\t0\nacct\t1\t1\tR\t0\t0\t0\t0\t0\nacct\t2\t0\tH\t0\t0\t0\t-80\t-20\nday\t4\t3\nacct\t1\t0\tH\t0\t7\t0\t-7\t0\nacct\t1\t1\tR\t0\t0\t0\t0\t-7\nacct\t2\t0\tH\t0\t0\t0\t0\t0\nday\t7\t3\nacct\t1\t0\tH\t0\t0\t0\t0\t0\nacct\t1\t1\tR\t0\t0\t0\t0\t0\nacct\t2\t0\tH\t0\t0\t0\t-10\t-60\nday\t9\t3\nacct\t1\t0\tH\t0\t5\t0\t-5\t0\nacct\t1\t1\tR\t0\t0\t0\t0\t-5\nacct\t2\t0\tH\t0\t0\t0\t-3\t-2\nday\t30\t3\nacct\t1\t0\tH\t0\t0\t0\t0\t0\nacct\t1\t1\tR\t0\t0\t0\t0\t0\nacct\t2\t0\tH\t0\t0\t0\t-90\t0\nday\t31\t3\nacct\t1\t0\tH\t0\t0\t0\t0\t0\nacct\t1\t1\tR\t0\t0\t0\t0\t0\nacct\t2\t0\tH\t0\t0\t0\t-1\t-2\nend\n" gives "day\t2\t50\t50\ndaily\t1\t0\t0\t0\t0\t0\ndaily\t2\t50\t1000000000000\t5000\t5500\t11000\ntotal\t50\t1000000000000\t5000\t5500\t11000\nday\t3\t80\t80\ndaily\t1\t0\t0\t0\t0\t0\ndaily\t2\t80\t1000000000000\t8000\t8800\t17600\ntotal\t80\t1000000000000\t8000\t8800\t17600\nday\t4\t7\t80\ndaily\t1\t7\t1000000000000\t8000\t8800\t17600\ndaily\t2\t0\t0\t0\t0\t0\ntotal\t7\t1000000000000\t8000\t8800\t17600\nday\t7\t60\t80\ndaily\t1\t0\t0\t0\t0\t0\ndaily\t2\t60\t1000000000000\t8000\t8800\t17600\ntotal\t60\t1000000000000\t8000\t8800\t17600\nday\t9\t8\t80\ndaily\t1\t5\t625000000000\t5000\t5500\t11000\ndaily\t2\t3\t375000000000\t3000\t3300\t6600\ntotal\t8\t1000000000000\t8000\t8800\t17600\nday\t30\t90\t90\ndaily\t1\t0\t0\t0\t0\t0\ndaily\t2\t90\t1000000000000\t9000\t9900\t19800\ntotal\t90\t1000000000000\t9000\t9900\t19800\nday\t31\t2\t90\ndaily\t1\t0\t0\t0\t0\t0\ndaily\t2\t2\t1000000000000\t9000\t9900\t19800\ntotal\t2\t1000000000000\t9000\t9900\t19800\nfund\t7\t90\t100000000\ncontribution\t1\t23\t50000000\t100000000\ncontribution\t2\t77\t50000000\t100000000\n")
+    -- 31 days, the first of the highest Max EUL, the others of less and less
+    ∷ ("period\t1\t1\nmember\t1\t0\nday\t1\t1\nacct\t1\t0\tH\t49\t0\t0\t0\nday\t2\t1\nacct\t1\t0\tH\t48\t0\t0\t0\nday\t3\t1\nacct\t1\t0\tH\t47\t0\t0\t0\nday\t4\t1\nacct\t1\t0\tH\t46\t0\t0\t0\nday\t5\t1\nacct\t1\t0\tH\t45\t0\t0\t0\nday\t6\t1\nacct\t1\t0\tH\t44\t0\t0\t0\nday\t7\t1\nacct\t1\t0\tH\t43\t0\t0\t0\nday\t8\t1\nacct\t1\t0\tH\t42\t0\t0\t0\nday\t9\t1\nacct\t1\t0\tH\t41\t0\t0\t0\nday\t10\t1\nacct\t1\t0\tH\t40\t0\t0\t0\nday\t11\t1\nacct\t1\t0\tH\t39\t0\t0\t0\nday\t12\t1\nacct\t1\t0\tH\t38\t0\t0\t0\nday\t13\t1\nacct\t1\t0\tH\t37\t0\t0\t0\nday\t14\t1\nacct\t1\t0\tH\t36\t0\t0\t0\nday\t15\t1\nacct\t1\t0\tH\t35\t0\t0\t0\nday\t16\t1\nacct\t1\t0\tH\t34\t0\t0\t0\nday\t17\t1\nacct\t1\t0\tH\t33\t0\t0\t0\nday\t18\t1\nacct\t1\t0\tH\t32\t0\t0\t0\nday\t19\t1\nacct\t1\t0\tH\t31\t0\t0\t0\nday\t20\t1\nacct\t1\t0\tH\t30\t0\t0\t0\nday\t21\t1\nacct\t1\t0\tH\t29\t0\t0\t0\nday\t22\t1\nacct\t1\t0\tH\t28\t0\t0\t0\nday\t23\t1\nacct\t1\t0\tH\t27\t0\t0\t0\nday\t24\t1\nacct\t1\t0\tH\t26\t0\t0\t0\nday\t25\t1\nacct\t1\t0\tH\t25\t0\t0\t0\nday\t26\t1\nacct\t1\t0\tH\t24\t0\t0\t0\nday\t27\t1\nacct\t1\t0\tH\t23\t0\t0\t0\nday\t28\t1\nacct\t1\t0\tH\t22\t0\t0\t0\nday\t29\t1\nacct\t1\t0\tH\t21\t0\t0\t0\nday\t30\t1\nacct\t1\t0\tH\t20\t0\t0\t0\nday\t31\t1\nacct\t1\t0\tH\t19\t0\t0\t0\nend\n" gives "day\t1\t49\t49\ndaily\t1\t49\t1000000000000\t4900\t5390\t10780\ntotal\t49\t1000000000000\t4900\t5390\t10780\nday\t2\t48\t49\ndaily\t1\t48\t1000000000000\t4900\t5390\t10780\ntotal\t48\t1000000000000\t4900\t5390\t10780\nday\t3\t47\t49\ndaily\t1\t47\t1000000000000\t4900\t5390\t10780\ntotal\t47\t1000000000000\t4900\t5390\t10780\nday\t4\t46\t49\ndaily\t1\t46\t1000000000000\t4900\t5390\t10780\ntotal\t46\t1000000000000\t4900\t5390\t10780\nday\t5\t45\t49\ndaily\t1\t45\t1000000000000\t4900\t5390\t10780\ntotal\t45\t1000000000000\t4900\t5390\t10780\nday\t6\t44\t49\ndaily\t1\t44\t1000000000000\t4900\t5390\t10780\ntotal\t44\t1000000000000\t4900\t5390\t10780\nday\t7\t43\t49\ndaily\t1\t43\t1000000000000\t4900\t5390\t10780\ntotal\t43\t1000000000000\t4900\t5390\t10780\nday\t8\t42\t49\ndaily\t1\t42\t1000000000000\t4900\t5390\t10780\ntotal\t42\t1000000000000\t4900\t5390\t10780\nday\t9\t41\t49\ndaily\t1\t41\t1000000000000\t4900\t5390\t10780\ntotal\t41\t1000000000000\t4900\t5390\t10780\nday\t10\t40\t49\ndaily\t1\t40\t1000000000000\t4900\t5390\t10780\ntotal\t40\t1000000000000\t4900\t5390\t10780\nday\t11\t39\t49\ndaily\t1\t39\t1000000000000\t4900\t5390\t10780\ntotal\t39\t1000000000000\t4900\t5390\t10780\nday\t12\t38\t49\ndaily\t1\t38\t1000000000000\t4900\t5390\t10780\ntotal\t38\t1000000000000\t4900\t5390\t10780\nday\t13\t37\t49\ndaily\t1\t37\t1000000000000\t4900\t5390\t10780\ntotal\t37\t1000000000000\t4900\t5390\t10780\nday\t14\t36\t49\ndaily\t1\t36\t1000000000000\t4900\t5390\t10780\ntotal\t36\t1000000000000\t4900\t5390\t10780\nday\t15\t35\t49\ndaily\t1\t35\t1000000000000\t4900\t5390\t10780\ntotal\t35\t1000000000000\t4900\t5390\t10780\nday\t16\t34\t49\ndaily\t1\t34\t1000000000000\t4900\t5390\t10780\ntotal\t34\t1000000000000\t4900\t5390\t10780\nday\t17\t33\t49\ndaily\t1\t33\t1000000000000\t4900\t5390\t10780\ntotal\t33\t1000000000000\t4900\t5390\t10780\nday\t18\t32\t49\ndaily\t1\t32\t1000000000000\t4900\t5390\t10780\ntotal\t32\t1000000000000\t4900\t5390\t10780\nday\t19\t31\t49\ndaily\t1\t31\t1000000000000\t4900\t5390\t10780\ntotal\t31\t1000000000000\t4900\t5390\t10780\nday\t20\t30\t49\ndaily\t1\t30\t1000000000000\t4900\t5390\t10780\ntotal\t30\t1000000000000\t4900\t5390\t10780\nday\t21\t29\t49\ndaily\t1\t29\t1000000000000\t4900\t5390\t10780\ntotal\t29\t1000000000000\t4900\t5390\t10780\nday\t22\t28\t49\ndaily\t1\t28\t1000000000000\t4900\t5390\t10780\ntotal\t28\t1000000000000\t4900\t5390\t10780\nday\t23\t27\t49\ndaily\t1\t27\t1000000000000\t4900\t5390\t10780\ntotal\t27\t1000000000000\t4900\t5390\t10780\nday\t24\t26\t49\ndaily\t1\t26\t1000000000000\t4900\t5390\t10780\ntotal\t26\t1000000000000\t4900\t5390\t10780\nday\t25\t25\t49\ndaily\t1\t25\t1000000000000\t4900\t5390\t10780\ntotal\t25\t1000000000000\t4900\t5390\t10780\nday\t26\t24\t49\ndaily\t1\t24\t1000000000000\t4900\t5390\t10780\ntotal\t24\t1000000000000\t4900\t5390\t10780\nday\t27\t23\t49\ndaily\t1\t23\t1000000000000\t4900\t5390\t10780\ntotal\t23\t1000000000000\t4900\t5390\t10780\nday\t28\t22\t49\ndaily\t1\t22\t1000000000000\t4900\t5390\t10780\ntotal\t22\t1000000000000\t4900\t5390\t10780\nday\t29\t21\t49\ndaily\t1\t21\t1000000000000\t4900\t5390\t10780\ntotal\t21\t1000000000000\t4900\t5390\t10780\nday\t30\t20\t49\ndaily\t1\t20\t1000000000000\t4900\t5390\t10780\ntotal\t20\t1000000000000\t4900\t5390\t10780\nday\t31\t19\t49\ndaily\t1\t19\t1000000000000\t4900\t5390\t10780\ntotal\t19\t1000000000000\t4900\t5390\t10780\nfund\t31\t49\t50000000\ncontribution\t1\t54\t50000000\t100000000\n")
     -- a house account of kind h
     ∷ ("period\t1\t1\nmember\t1\t0\nday\t3\t1\nacct\t1\t0\th\t10\t0\t0\t0\nend\n" gives "refused\t5\t4\n")
     -- a house account of kind empty
@@ -369,9 +373,11 @@ texts =
     -- 9 on a second day
     ∷ ("period\t1\t1\nmember\t1\t0\nday\t1\t1\nacct\t1\t0\tH\t10\t0\t0\t0\nday\t2\t2\nacct\t1\t0\tH\t10\t0\t0\t0\nacct\t1\tx\tU\t10\t0\t0\t0\nend\n" gives "day\t1\t10\t10\ndaily\t1\t10\t1000000000000\t1000\t1100\t2200\ntotal\t10\t1000000000000\t1000\t1100\t2200\nrefused\t9\t7\n")
     -- days that leave numbers out
-    ∷ ("period\t1\t1\nmember\t1\t0\nday\t1\t1\nacct\t1\t0\tH\t10\t0\t0\t0\nday\t9\t1\nacct\t1\t0\tH\t30\t0\t0\t0\nday\t31\t1\nacct\t1\t0\tH\t20\t0\t0\t0\nend\n" gives "day\t1\t10\t10\ndaily\t1\t10\t1000000000000\t1000\t1100\t2200\ntotal\t10\t1000000000000\t1000\t1100\t2200\nday\t9\t30\t30\ndaily\t1\t30\t1000000000000\t3000\t3300\t6600\ntotal\t30\t1000000000000\t3000\t3300\t6600\nday\t31\t20\t20\ndaily\t1\t20\t1000000000000\t2000\t2200\t4400\ntotal\t20\t1000000000000\t2000\t2200\t4400\nfund\t3\t30\t50000000\ncontribution\t1\t33\t50000000\t100000000\n")
+    ∷ ("period\t1\t1\nmember\t1\t0\nday\t1\t1\nacct\t1\t0\tH\t10\t0\t0\t0\nday\t9\t1\nacct\t1\t0\tH\t30\t0\t0\t0\nday\t31\t1\nacct\t1\t0\tH\t20\t0\t0\t0\nend\n" gives "day\t1\t10\t10\ndaily\t1\t10\t1000000000000\t1000\t1100\t2200\ntotal\t10\t1000000000000\t1000\t1100\t2200\nday\t9\t30\t30\ndaily\t1\t30\t1000000000000\t3000\t3300\t6600\ntotal\t30\t1000000000000\t3000\t3300\t6600\nday\t31\t20\t30\ndaily\t1\t20\t1000000000000\t3000\t3300\t6600\ntotal\t20\t1000000000000\t3000\t3300\t6600\nfund\t3\t30\t50000000\ncontribution\t1\t33\t50000000\t100000000\n")
     -- groups of three and of two
-    ∷ ("period\t7\t3\nmember\t1\t17\nmember\t2\t1\nmember\t3\t17\nmember\t4\t0\nmember\t5\t1\nmember\t6\t17\nmember\t7\t0\nday\t1\t7\nacct\t1\t0\tH\t10\t0\t0\t10\t0\t10\nacct\t2\t0\tH\t8\t0\t0\t8\t0\t8\nacct\t3\t0\tH\t10\t0\t0\t10\t0\t10\nacct\t4\t0\tH\t25\t0\t0\t25\t0\t25\nacct\t5\t0\tH\t8\t0\t0\t8\t0\t8\nacct\t6\t0\tH\t10\t0\t0\t10\t0\t10\nacct\t7\t0\tH\t1\t0\t0\t1\t0\t1\nday\t2\t7\nacct\t1\t0\tH\t10\t0\t0\t10\t0\t10\nacct\t2\t0\tH\t20\t0\t0\t20\t0\t20\nacct\t3\t0\tH\t10\t0\t0\t10\t0\t10\nacct\t4\t0\tH\t25\t0\t0\t25\t0\t25\nacct\t5\t0\tH\t20\t0\t0\t20\t0\t20\nacct\t6\t0\tH\t10\t0\t0\t10\t0\t10\nacct\t7\t0\tH\t1\t0\t0\t1\t0\t1\nday\t3\t8\nacct\t1\t0\tH\t20\t0\t0\t20\t0\t20\nacct\t2\t0\tH\t10\t0\t0\t10\t0\t10\nacct\t3\t0\tH\t20\t0\t0\t20\t0\t20\nacct\t4\t0\tH\t25\t0\t0\t25\t0\t25\nacct\t5\t0\tH\t10\t0\t0\t10\t0\t10\nacct\t6\t0\tH\t0\t15\t0\t0\t0\t0\nacct\t6\t1\tR\t5\t0\t0\t5\t0\t5\nacct\t7\t0\tH\t1\t0\t0\t1\t0\t1\nend\n" gives "day\t1\t72\t30\ndaily\t1\t10\t138888888889\t417\t458\t917\ndaily\t2\t8\t111111111112\t333\t367\t733\ndaily\t3\t10\t138888888889\t417\t458\t917\ndaily\t4\t25\t347222222223\t1042\t1146\t2292\ndaily\t5\t8\t111111111112\t333\t367\t733\ndaily\t6\t10\t138888888889\t417\t458\t917\ndaily\t7\t1\t13888888889\t42\t46\t92\ntotal\t72\t1000000000003\t3001\t3300\t6601\nday\t2\t96\t40\ndaily\t1\t10\t104166666667\t417\t458\t917\ndaily\t2\t20\t208333333334\t833\t917\t1833\ndaily\t3\t10\t104166666667\t417\t458\t917\ndaily\t4\t25\t260416666667\t1042\t1146\t2292\ndaily\t5\t20\t208333333334\t833\t917\t1833\ndaily\t6\t10\t104166666667\t417\t458\t917\ndaily\t7\t1\t10416666667\t42\t46\t92\ntotal\t96\t1000000000003\t4001\t4400\t8801\nday\t3\t86\t30\ndaily\t1\t20\t232558139535\t698\t767\t1535\ndaily\t2\t10\t116279069768\t349\t384\t767\ndaily\t3\t20\t232558139535\t698\t767\t1535\ndaily\t4\t25\t290697674419\t872\t959\t1919\ndaily\t5\t10\t116279069768\t349\t384\t767\ndaily\t6\t0\t0\t0\t0\t0\ndaily\t7\t1\t11627906977\t35\t38\t77\ntotal\t86\t1000000000002\t3001\t3299\t6600\nfund\t3\t40\t350000000\ncontribution\t1\t7\t50000000\t100000000\ncontribution\t2\t7\t50000000\t100000000\ncontribution\t3\t7\t50000000\t100000000\ncontribution\t4\t14\t50000000\t100000000\ncontribution\t5\t7\t50000000\t100000000\ncontribution\t6\t4\t50000000\t100000000\ncontribution\t7\t1\t50000000\t100000000\n")
+    ∷ ("period\t7\t3\nmember\t1\t17\nmember\t2\t1\nmember\t3\t17\nmember\t4\t0\nmember\t5\t1\nmember\t6\t17\nmember\t7\t0\nday\t1\t7\nacct\t1\t0\tH\t10\t0\t0\t10\t0\t10\nacct\t2\t0\tH\t8\t0\t0\t8\t0\t8\nacct\t3\t0\tH\t10\t0\t0\t10\t0\t10\nacct\t4\t0\tH\t25\t0\t0\t25\t0\t25\nacct\t5\t0\tH\t8\t0\t0\t8\t0\t8\nacct\t6\t0\tH\t10\t0\t0\t10\t0\t10\nacct\t7\t0\tH\t1\t0\t0\t1\t0\t1\nday\t2\t7\nacct\t1\t0\tH\t10\t0\t0\t10\t0\t10\nacct\t2\t0\tH\t20\t0\t0\t20\t0\t20\nacct\t3\t0\tH\t10\t0\t0\t10\t0\t10\nacct\t4\t0\tH\t25\t0\t0\t25\t0\t25\nacct\t5\t0\tH\t20\t0\t0\t20\t0\t20\nacct\t6\t0\tH\t10\t0\t0\t10\t0\t10\nacct\t7\t0\tH\t1\t0\t0\t1\t0\t1\nend\n" gives "day\t1\t72\t30\ndaily\t1\t10\t138888888889\t417\t458\t917\ndaily\t2\t8\t111111111112\t333\t367\t733\ndaily\t3\t10\t138888888889\t417\t458\t917\ndaily\t4\t25\t347222222223\t1042\t1146\t2292\ndaily\t5\t8\t111111111112\t333\t367\t733\ndaily\t6\t10\t138888888889\t417\t458\t917\ndaily\t7\t1\t13888888889\t42\t46\t92\ntotal\t72\t1000000000003\t3001\t3300\t6601\nday\t2\t96\t40\ndaily\t1\t10\t104166666667\t417\t458\t917\ndaily\t2\t20\t208333333334\t833\t917\t1833\ndaily\t3\t10\t104166666667\t417\t458\t917\ndaily\t4\t25\t260416666667\t1042\t1146\t2292\ndaily\t5\t20\t208333333334\t833\t917\t1833\ndaily\t6\t10\t104166666667\t417\t458\t917\ndaily\t7\t1\t10416666667\t42\t46\t92\ntotal\t96\t1000000000003\t4001\t4400\t8801\nfund\t2\t40\t350000000\ncontribution\t1\t6\t50000000\t100000000\ncontribution\t2\t8\t50000000\t100000000\ncontribution\t3\t6\t50000000\t100000000\ncontribution\t4\t14\t50000000\t100000000\ncontribution\t5\t8\t50000000\t100000000\ncontribution\t6\t6\t50000000\t100000000\ncontribution\t7\t1\t50000000\t100000000\n")
+    -- groups of three and of two, one member of three covered
+    ∷ ("period\t7\t3\nmember\t1\t17\nmember\t2\t1\nmember\t3\t17\nmember\t4\t0\nmember\t5\t1\nmember\t6\t17\nmember\t7\t0\nday\t3\t8\nacct\t1\t0\tH\t20\t0\t0\t20\t0\t20\nacct\t2\t0\tH\t10\t0\t0\t10\t0\t10\nacct\t3\t0\tH\t20\t0\t0\t20\t0\t20\nacct\t4\t0\tH\t25\t0\t0\t25\t0\t25\nacct\t5\t0\tH\t10\t0\t0\t10\t0\t10\nacct\t6\t0\tH\t0\t15\t0\t0\t0\t0\nacct\t6\t1\tR\t5\t0\t0\t5\t0\t5\nacct\t7\t0\tH\t1\t0\t0\t1\t0\t1\nend\n" gives "day\t3\t86\t30\ndaily\t1\t20\t232558139535\t698\t767\t1535\ndaily\t2\t10\t116279069768\t349\t384\t767\ndaily\t3\t20\t232558139535\t698\t767\t1535\ndaily\t4\t25\t290697674419\t872\t959\t1919\ndaily\t5\t10\t116279069768\t349\t384\t767\ndaily\t6\t0\t0\t0\t0\t0\ndaily\t7\t1\t11627906977\t35\t38\t77\ntotal\t86\t1000000000002\t3001\t3299\t6600\nfund\t1\t30\t350000000\ncontribution\t1\t8\t50000000\t100000000\ncontribution\t2\t4\t50000000\t100000000\ncontribution\t3\t8\t50000000\t100000000\ncontribution\t4\t10\t50000000\t100000000\ncontribution\t5\t4\t50000000\t100000000\ncontribution\t6\t0\t50000000\t100000000\ncontribution\t7\t1\t50000000\t100000000\n")
     -- a stress -0
     ∷ ("period\t2\t1\nmember\t1\t0\nmember\t2\t0\nday\t3\t2\nacct\t1\t0\tH\t390000000\t0\t0\t-0\nacct\t2\t0\tH\t10000000\t0\t0\t0\nend\n" gives "refused\t9\t5\n")
     -- a stress 01
@@ -455,19 +461,27 @@ texts =
     -- a day of small amounts and one of large, twelve clients of one member
     ∷ ("period\t2\t1\nmember\t1\t0\nmember\t2\t0\nday\t6\t14\nacct\t1\t0\tH\t100\t513969\t0\t1703\nacct\t1\t1\tR\t0\t0\t0\t9336\nacct\t1\t2\tR\t6\t3\t3\t-1567\nacct\t1\t4\tR\t31\t0\t0\t-188\nacct\t1\t5\tR\t-93534\t7756\t0\t-94222\nacct\t1\t6\tU\t60137\t515\t0\t59622\nacct\t1\t7\tA\t-8534\t59\t0\t-8593\nacct\t1\t8\tR\t22\t0\t0\t-957083\nacct\t1\t9\tA\t22\t0\t0\t-957083\nacct\t1\t10\tU\t-46\t76355\t0\t-76401\nacct\t1\t11\tR\t-23730\t51902\t51902\t-75632\nacct\t1\t12\tR\t0\t0\t0\t10\nacct\t1\t13\tA\t-7421\t1557\t0\t-8979\nacct\t2\t0\tH\t0\t982\t190\t9356\nday\t14\t13\nacct\t1\t0\tH\t953254430163\t0\t0\t1000000000000\nacct\t1\t1\tR\t418510812807\t749350838531\t749350838531\t196659524676\nacct\t1\t2\tR\t947064566301\t85405521710\t12238610127\t861659044590\nacct\t1\t3\tR\t373509261788\t974962331456\t0\t-601453069668\nacct\t1\t5\tU\t319774531444\t3\t0\t1000000000000\nacct\t2\t0\tH\t822961047001\t0\t0\t837148318357\nacct\t2\t1\tA\t708269794456\t0\t0\t1000000000000\nacct\t2\t3\tR\t-13375383878\t226672834982\t159037531670\t-240048218861\nacct\t2\t4\tR\t-13375383878\t226672834982\t159037531670\t-240048218861\nacct\t2\t5\tA\t663738635235\t914481008604\t518146117068\t-250742373370\nacct\t2\t6\tR\t-731694166136\t977905555724\t620800860695\t-742324093881\nacct\t2\t7\tR\t-116995082496\t842373208735\t842373208735\t-959368291232\nacct\t2\t8\tU\t538381967980\t0\t0\t-331902167388\nend\n" gives "day\t6\t1452144\t1452144\ndaily\t1\t1452144\t1000000000000\t145214400\t159735840\t319471680\ndaily\t2\t0\t0\t0\t0\t0\ntotal\t1452144\t1000000000000\t145214400\t159735840\t319471680\nday\t14\t2896959412954\t2662869514695\ndaily\t1\t234089898259\t80805377256\t21517417571837\t23669159329021\t47338318658041\ndaily\t2\t2662869514695\t919194622745\t244769533897663\t269246487287429\t538492974574859\ntotal\t2896959412954\t1000000000001\t266286951469500\t292915646616450\t585831293232900\nfund\t2\t2662869514695\t2929156466167\ncontribution\t1\t1582924029728\t1582924029728\t3165848059456\ncontribution\t2\t1346232436439\t1346232436439\t2692464872878\n")
     -- five members that lose a few dollars: cents rounded up and down on four days
-    ∷ ("period\t5\t1\nmember\t1\t0\nmember\t2\t0\nmember\t3\t0\nmember\t4\t0\nmember\t5\t0\nday\t1\t5\nacct\t1\t0\tH\t0\t0\t0\t-4\nacct\t2\t0\tH\t0\t0\t0\t-6\nacct\t3\t0\tH\t0\t0\t0\t-4\nacct\t4\t0\tH\t0\t0\t0\t-1\nacct\t5\t0\tH\t0\t0\t0\t-1\nday\t2\t5\nacct\t1\t0\tH\t0\t0\t0\t-2\nacct\t2\t0\tH\t0\t0\t0\t-12\nacct\t3\t0\tH\t0\t0\t0\t-7\nacct\t4\t0\tH\t0\t0\t0\t-14\nacct\t5\t0\tH\t0\t0\t0\t-5\nday\t3\t5\nacct\t1\t0\tH\t0\t0\t0\t-12\nacct\t2\t0\tH\t0\t0\t0\t-27\nacct\t3\t0\tH\t0\t0\t0\t-96\nacct\t4\t0\tH\t0\t0\t0\t-57\nacct\t5\t0\tH\t0\t0\t0\t-8\nday\t4\t5\nacct\t1\t0\tH\t0\t0\t0\t-3\nacct\t2\t0\tH\t0\t0\t0\t-2\nacct\t3\t0\tH\t0\t0\t0\t-1\nacct\t4\t0\tH\t0\t0\t0\t-1\nacct\t5\t0\tH\t0\t0\t0\t-1\nend\n" gives "day\t1\t16\t6\ndaily\t1\t4\t250000000000\t150\t165\t330\ndaily\t2\t6\t375000000000\t225\t248\t495\ndaily\t3\t4\t250000000000\t150\t165\t330\ndaily\t4\t1\t62500000000\t38\t41\t83\ndaily\t5\t1\t62500000000\t38\t41\t83\ntotal\t16\t1000000000000\t601\t660\t1321\nday\t2\t40\t14\ndaily\t1\t2\t50000000000\t70\t77\t154\ndaily\t2\t12\t300000000000\t420\t462\t924\ndaily\t3\t7\t175000000000\t245\t270\t539\ndaily\t4\t14\t350000000000\t490\t539\t1078\ndaily\t5\t5\t125000000000\t175\t193\t385\ntotal\t40\t1000000000000\t1400\t1541\t3080\nday\t3\t200\t96\ndaily\t1\t12\t60000000000\t576\t634\t1267\ndaily\t2\t27\t135000000000\t1296\t1426\t2851\ndaily\t3\t96\t480000000000\t4608\t5069\t10138\ndaily\t4\t57\t285000000000\t2736\t3010\t6019\ndaily\t5\t8\t40000000000\t384\t422\t845\ntotal\t200\t1000000000000\t9600\t10561\t21120\nday\t4\t8\t3\ndaily\t1\t3\t375000000000\t113\t124\t248\ndaily\t2\t2\t250000000000\t75\t83\t165\ndaily\t3\t1\t125000000000\t38\t41\t83\ndaily\t4\t1\t125000000000\t38\t41\t83\ndaily\t5\t1\t125000000000\t38\t41\t83\ntotal\t8\t1000000000000\t302\t330\t662\nfund\t4\t96\t250000000\ncontribution\t1\t20\t50000000\t100000000\ncontribution\t2\t28\t50000000\t100000000\ncontribution\t3\t28\t50000000\t100000000\ncontribution\t4\t22\t50000000\t100000000\ncontribution\t5\t10\t50000000\t100000000\n")
+    ∷ ("period\t5\t1\nmember\t1\t0\nmember\t2\t0\nmember\t3\t0\nmember\t4\t0\nmember\t5\t0\nday\t1\t5\nacct\t1\t0\tH\t0\t0\t0\t-4\nacct\t2\t0\tH\t0\t0\t0\t-6\nacct\t3\t0\tH\t0\t0\t0\t-4\nacct\t4\t0\tH\t0\t0\t0\t-1\nacct\t5\t0\tH\t0\t0\t0\t-1\nday\t2\t5\nacct\t1\t0\tH\t0\t0\t0\t-2\nacct\t2\t0\tH\t0\t0\t0\t-12\nacct\t3\t0\tH\t0\t0\t0\t-7\nacct\t4\t0\tH\t0\t0\t0\t-14\nacct\t5\t0\tH\t0\t0\t0\t-5\nday\t3\t5\nacct\t1\t0\tH\t0\t0\t0\t-12\nacct\t2\t0\tH\t0\t0\t0\t-27\nacct\t3\t0\tH\t0\t0\t0\t-96\nacct\t4\t0\tH\t0\t0\t0\t-57\nacct\t5\t0\tH\t0\t0\t0\t-8\nday\t4\t5\nacct\t1\t0\tH\t0\t0\t0\t-3\nacct\t2\t0\tH\t0\t0\t0\t-2\nacct\t3\t0\tH\t0\t0\t0\t-1\nacct\t4\t0\tH\t0\t0\t0\t-1\nacct\t5\t0\tH\t0\t0\t0\t-1\nend\n" gives "day\t1\t16\t6\ndaily\t1\t4\t250000000000\t150\t165\t330\ndaily\t2\t6\t375000000000\t225\t248\t495\ndaily\t3\t4\t250000000000\t150\t165\t330\ndaily\t4\t1\t62500000000\t38\t41\t83\ndaily\t5\t1\t62500000000\t38\t41\t83\ntotal\t16\t1000000000000\t601\t660\t1321\nday\t2\t40\t14\ndaily\t1\t2\t50000000000\t70\t77\t154\ndaily\t2\t12\t300000000000\t420\t462\t924\ndaily\t3\t7\t175000000000\t245\t270\t539\ndaily\t4\t14\t350000000000\t490\t539\t1078\ndaily\t5\t5\t125000000000\t175\t193\t385\ntotal\t40\t1000000000000\t1400\t1541\t3080\nday\t3\t200\t96\ndaily\t1\t12\t60000000000\t576\t634\t1267\ndaily\t2\t27\t135000000000\t1296\t1426\t2851\ndaily\t3\t96\t480000000000\t4608\t5069\t10138\ndaily\t4\t57\t285000000000\t2736\t3010\t6019\ndaily\t5\t8\t40000000000\t384\t422\t845\ntotal\t200\t1000000000000\t9600\t10561\t21120\nday\t4\t8\t96\ndaily\t1\t3\t375000000000\t3600\t3960\t7920\ndaily\t2\t2\t250000000000\t2400\t2640\t5280\ndaily\t3\t1\t125000000000\t1200\t1320\t2640\ndaily\t4\t1\t125000000000\t1200\t1320\t2640\ndaily\t5\t1\t125000000000\t1200\t1320\t2640\ntotal\t8\t1000000000000\t9600\t10560\t21120\nfund\t4\t96\t250000000\ncontribution\t1\t20\t50000000\t100000000\ncontribution\t2\t28\t50000000\t100000000\ncontribution\t3\t28\t50000000\t100000000\ncontribution\t4\t22\t50000000\t100000000\ncontribution\t5\t10\t50000000\t100000000\n")
     -- members whose margins cover their losses, and a group, on two days
     ∷ ("period\t6\t1\nmember\t1\t0\nmember\t2\t0\nmember\t3\t1\nmember\t4\t0\nmember\t5\t1\nmember\t6\t0\nday\t1\t6\nacct\t1\t0\tH\t0\t0\t0\t-100\nacct\t2\t0\tH\t0\t110\t0\t0\nacct\t3\t0\tH\t0\t200\t0\t-100\nacct\t4\t0\tH\t0\t0\t0\t0\nacct\t5\t0\tH\t0\t0\t0\t0\nacct\t6\t0\tH\t0\t110\t0\t-150\nday\t2\t6\nacct\t1\t0\tH\t0\t0\t0\t-100\nacct\t2\t0\tH\t0\t200\t0\t-150\nacct\t3\t0\tH\t0\t0\t0\t-150\nacct\t4\t0\tH\t0\t110\t0\t-150\nacct\t5\t0\tH\t0\t110\t0\t0\nacct\t6\t0\tH\t0\t200\t0\t-150\nend\n" gives "day\t1\t140\t100\ndaily\t1\t100\t714285714286\t7143\t7857\t15714\ndaily\t2\t0\t0\t0\t0\t0\ndaily\t3\t0\t0\t0\t0\t0\ndaily\t4\t0\t0\t0\t0\t0\ndaily\t5\t0\t0\t0\t0\t0\ndaily\t6\t40\t285714285715\t2857\t3143\t6286\ntotal\t140\t1000000000001\t10000\t11000\t22000\nday\t2\t290\t150\ndaily\t1\t100\t344827586207\t5172\t5690\t11379\ndaily\t2\t0\t0\t0\t0\t0\ndaily\t3\t150\t517241379311\t7759\t8534\t17069\ndaily\t4\t40\t137931034483\t2069\t2276\t4552\ndaily\t5\t0\t0\t0\t0\t0\ndaily\t6\t0\t0\t0\t0\t0\ntotal\t290\t1000000000001\t15000\t16500\t33000\nfund\t2\t150\t300000000\ncontribution\t1\t88\t50000000\t100000000\ncontribution\t2\t0\t50000000\t100000000\ncontribution\t3\t43\t50000000\t100000000\ncontribution\t4\t12\t50000000\t100000000\ncontribution\t5\t0\t50000000\t100000000\ncontribution\t6\t24\t50000000\t100000000\n")
     -- two days of one T and unlike cents
-    ∷ ("period\t2\t1\nmember\t1\t0\nmember\t2\t0\nday\t1\t2\nacct\t1\t0\tH\t0\t0\t0\t-219\nacct\t2\t0\tH\t0\t0\t0\t-581\nday\t2\t2\nacct\t1\t0\tH\t0\t0\t0\t-576\nacct\t2\t0\tH\t0\t0\t0\t-224\nend\n" gives "day\t1\t800\t581\ndaily\t1\t219\t273750000000\t15905\t17495\t34991\ndaily\t2\t581\t726250000000\t42195\t46415\t92829\ntotal\t800\t1000000000000\t58100\t63910\t127820\nday\t2\t800\t576\ndaily\t1\t576\t720000000000\t41472\t45619\t91238\ndaily\t2\t224\t280000000000\t16128\t17741\t35482\ntotal\t800\t1000000000000\t57600\t63360\t126720\nfund\t2\t581\t100000000\ncontribution\t1\t318\t50000000\t100000000\ncontribution\t2\t322\t50000000\t100000000\n")
-    -- a day whose cents are all 0, between two that are not
-    ∷ ("period\t1\t2\nmember\t1\t0\nday\t1\t2\nacct\t1\t0\tH\t0\t55\t0\t-50\t0\nacct\t1\t1\tU\t0\t5\t0\t0\t-50\nday\t2\t2\nacct\t1\t0\tH\t0\t55\t0\t-50\t0\nacct\t1\t1\tU\t0\t5\t0\t0\t-10\nday\t3\t2\nacct\t1\t0\tH\t0\t55\t0\t-50\t0\nacct\t1\t1\tU\t0\t5\t0\t0\t-50\nend\n" gives "day\t1\t63\t13\ndaily\t1\t63\t1000000000000\t1300\t1430\t2860\ntotal\t63\t1000000000000\t1300\t1430\t2860\nday\t2\t3\t0\ndaily\t1\t3\t1000000000000\t0\t0\t0\ntotal\t3\t1000000000000\t0\t0\t0\nday\t3\t63\t13\ndaily\t1\t63\t1000000000000\t1300\t1430\t2860\ntotal\t63\t1000000000000\t1300\t1430\t2860\nfund\t3\t13\t50000000\ncontribution\t1\t15\t50000000\t100000000\n")
+    ∷ ("period\t2\t1\nmember\t1\t0\nmember\t2\t0\nday\t1\t2\nacct\t1\t0\tH\t0\t0\t0\t-219\nacct\t2\t0\tH\t0\t0\t0\t-581\nday\t2\t2\nacct\t1\t0\tH\t0\t0\t0\t-576\nacct\t2\t0\tH\t0\t0\t0\t-224\nend\n" gives "day\t1\t800\t581\ndaily\t1\t219\t273750000000\t15905\t17495\t34991\ndaily\t2\t581\t726250000000\t42195\t46415\t92829\ntotal\t800\t1000000000000\t58100\t63910\t127820\nday\t2\t800\t581\ndaily\t1\t576\t720000000000\t41832\t46015\t92030\ndaily\t2\t224\t280000000000\t16268\t17895\t35790\ntotal\t800\t1000000000000\t58100\t63910\t127820\nfund\t2\t581\t100000000\ncontribution\t1\t318\t50000000\t100000000\ncontribution\t2\t322\t50000000\t100000000\n")
+    -- a day of own Max EUL 0 between two of 13
+    ∷ ("period\t1\t2\nmember\t1\t0\nday\t1\t2\nacct\t1\t0\tH\t0\t55\t0\t-50\t0\nacct\t1\t1\tU\t0\t5\t0\t0\t-50\nday\t2\t2\nacct\t1\t0\tH\t0\t55\t0\t-50\t0\nacct\t1\t1\tU\t0\t5\t0\t0\t-10\nday\t3\t2\nacct\t1\t0\tH\t0\t55\t0\t-50\t0\nacct\t1\t1\tU\t0\t5\t0\t0\t-50\nend\n" gives "day\t1\t63\t13\ndaily\t1\t63\t1000000000000\t1300\t1430\t2860\ntotal\t63\t1000000000000\t1300\t1430\t2860\nday\t2\t3\t13\ndaily\t1\t3\t1000000000000\t1300\t1430\t2860\ntotal\t3\t1000000000000\t1300\t1430\t2860\nday\t3\t63\t13\ndaily\t1\t63\t1000000000000\t1300\t1430\t2860\ntotal\t63\t1000000000000\t1300\t1430\t2860\nfund\t3\t13\t50000000\ncontribution\t1\t15\t50000000\t100000000\n")
     -- four members of one group that lose a dollar each on six days
     ∷ ("period\t4\t1\nmember\t1\t1\nmember\t2\t1\nmember\t3\t1\nmember\t4\t1\nday\t1\t4\nacct\t1\t0\tH\t0\t0\t0\t-1\nacct\t2\t0\tH\t0\t0\t0\t-1\nacct\t3\t0\tH\t0\t0\t0\t-1\nacct\t4\t0\tH\t0\t0\t0\t-1\nday\t2\t4\nacct\t1\t0\tH\t0\t0\t0\t-1\nacct\t2\t0\tH\t0\t0\t0\t-1\nacct\t3\t0\tH\t0\t0\t0\t-1\nacct\t4\t0\tH\t0\t0\t0\t-1\nday\t3\t4\nacct\t1\t0\tH\t0\t0\t0\t-1\nacct\t2\t0\tH\t0\t0\t0\t-1\nacct\t3\t0\tH\t0\t0\t0\t-1\nacct\t4\t0\tH\t0\t0\t0\t-1\nday\t4\t4\nacct\t1\t0\tH\t0\t0\t0\t-1\nacct\t2\t0\tH\t0\t0\t0\t-1\nacct\t3\t0\tH\t0\t0\t0\t-1\nacct\t4\t0\tH\t0\t0\t0\t-1\nday\t5\t4\nacct\t1\t0\tH\t0\t0\t0\t-1\nacct\t2\t0\tH\t0\t0\t0\t-1\nacct\t3\t0\tH\t0\t0\t0\t-1\nacct\t4\t0\tH\t0\t0\t0\t-1\nday\t6\t4\nacct\t1\t0\tH\t0\t0\t0\t-1\nacct\t2\t0\tH\t0\t0\t0\t-1\nacct\t3\t0\tH\t0\t0\t0\t-1\nacct\t4\t0\tH\t0\t0\t0\t-1\nend\n" gives "day\t1\t4\t4\ndaily\t1\t1\t250000000000\t100\t110\t220\ndaily\t2\t1\t250000000000\t100\t110\t220\ndaily\t3\t1\t250000000000\t100\t110\t220\ndaily\t4\t1\t250000000000\t100\t110\t220\ntotal\t4\t1000000000000\t400\t440\t880\nday\t2\t4\t4\ndaily\t1\t1\t250000000000\t100\t110\t220\ndaily\t2\t1\t250000000000\t100\t110\t220\ndaily\t3\t1\t250000000000\t100\t110\t220\ndaily\t4\t1\t250000000000\t100\t110\t220\ntotal\t4\t1000000000000\t400\t440\t880\nday\t3\t4\t4\ndaily\t1\t1\t250000000000\t100\t110\t220\ndaily\t2\t1\t250000000000\t100\t110\t220\ndaily\t3\t1\t250000000000\t100\t110\t220\ndaily\t4\t1\t250000000000\t100\t110\t220\ntotal\t4\t1000000000000\t400\t440\t880\nday\t4\t4\t4\ndaily\t1\t1\t250000000000\t100\t110\t220\ndaily\t2\t1\t250000000000\t100\t110\t220\ndaily\t3\t1\t250000000000\t100\t110\t220\ndaily\t4\t1\t250000000000\t100\t110\t220\ntotal\t4\t1000000000000\t400\t440\t880\nday\t5\t4\t4\ndaily\t1\t1\t250000000000\t100\t110\t220\ndaily\t2\t1\t250000000000\t100\t110\t220\ndaily\t3\t1\t250000000000\t100\t110\t220\ndaily\t4\t1\t250000000000\t100\t110\t220\ntotal\t4\t1000000000000\t400\t440\t880\nday\t6\t4\t4\ndaily\t1\t1\t250000000000\t100\t110\t220\ndaily\t2\t1\t250000000000\t100\t110\t220\ndaily\t3\t1\t250000000000\t100\t110\t220\ndaily\t4\t1\t250000000000\t100\t110\t220\ntotal\t4\t1000000000000\t400\t440\t880\nfund\t6\t4\t200000000\ncontribution\t1\t2\t50000000\t100000000\ncontribution\t2\t2\t50000000\t100000000\ncontribution\t3\t2\t50000000\t100000000\ncontribution\t4\t2\t50000000\t100000000\n")
     -- no day, four members, two of them in one group
     ∷ ("period\t4\t3\nmember\t1\t32\nmember\t2\t1\nmember\t3\t32\nmember\t4\t0\nend\n" gives "fund\t0\t0\t200000000\ncontribution\t1\t0\t50000000\t100000000\ncontribution\t2\t0\t50000000\t100000000\ncontribution\t3\t0\t50000000\t100000000\ncontribution\t4\t0\t50000000\t100000000\n")
     -- no day, n and k at their limits, all members in group 32
     ∷ ("period\t32\t16\nmember\t1\t32\nmember\t2\t32\nmember\t3\t32\nmember\t4\t32\nmember\t5\t32\nmember\t6\t32\nmember\t7\t32\nmember\t8\t32\nmember\t9\t32\nmember\t10\t32\nmember\t11\t32\nmember\t12\t32\nmember\t13\t32\nmember\t14\t32\nmember\t15\t32\nmember\t16\t32\nmember\t17\t32\nmember\t18\t32\nmember\t19\t32\nmember\t20\t32\nmember\t21\t32\nmember\t22\t32\nmember\t23\t32\nmember\t24\t32\nmember\t25\t32\nmember\t26\t32\nmember\t27\t32\nmember\t28\t32\nmember\t29\t32\nmember\t30\t32\nmember\t31\t32\nmember\t32\t32\nend\n" gives "fund\t0\t0\t1600000000\ncontribution\t1\t0\t50000000\t100000000\ncontribution\t2\t0\t50000000\t100000000\ncontribution\t3\t0\t50000000\t100000000\ncontribution\t4\t0\t50000000\t100000000\ncontribution\t5\t0\t50000000\t100000000\ncontribution\t6\t0\t50000000\t100000000\ncontribution\t7\t0\t50000000\t100000000\ncontribution\t8\t0\t50000000\t100000000\ncontribution\t9\t0\t50000000\t100000000\ncontribution\t10\t0\t50000000\t100000000\ncontribution\t11\t0\t50000000\t100000000\ncontribution\t12\t0\t50000000\t100000000\ncontribution\t13\t0\t50000000\t100000000\ncontribution\t14\t0\t50000000\t100000000\ncontribution\t15\t0\t50000000\t100000000\ncontribution\t16\t0\t50000000\t100000000\ncontribution\t17\t0\t50000000\t100000000\ncontribution\t18\t0\t50000000\t100000000\ncontribution\t19\t0\t50000000\t100000000\ncontribution\t20\t0\t50000000\t100000000\ncontribution\t21\t0\t50000000\t100000000\ncontribution\t22\t0\t50000000\t100000000\ncontribution\t23\t0\t50000000\t100000000\ncontribution\t24\t0\t50000000\t100000000\ncontribution\t25\t0\t50000000\t100000000\ncontribution\t26\t0\t50000000\t100000000\ncontribution\t27\t0\t50000000\t100000000\ncontribution\t28\t0\t50000000\t100000000\ncontribution\t29\t0\t50000000\t100000000\ncontribution\t30\t0\t50000000\t100000000\ncontribution\t31\t0\t50000000\t100000000\ncontribution\t32\t0\t50000000\t100000000\n")
+    -- two days of one T, the second with the lower Max EUL; groups of three and of one
+    ∷ ("period\t6\t3\nmember\t1\t1\nmember\t2\t0\nmember\t3\t1\nmember\t4\t0\nmember\t5\t1\nmember\t6\t32\nday\t1\t6\nacct\t1\t0\tH\t0\t0\t0\t-100\t-100\t-100\nacct\t2\t0\tH\t0\t30\t0\t0\t-100\t-150\nacct\t3\t0\tH\t0\t30\t0\t-150\t0\t-150\nacct\t4\t0\tH\t0\t0\t0\t-100\t-100\t-100\nacct\t5\t0\tH\t0\t30\t0\t-150\t0\t0\nacct\t6\t0\tH\t0\t110\t0\t0\t0\t-100\nday\t2\t6\nacct\t1\t0\tH\t0\t0\t0\t-100\t-100\t-100\nacct\t2\t0\tH\t0\t0\t0\t-150\t-150\t-80\nacct\t3\t0\tH\t0\t110\t0\t-100\t-80\t-150\nacct\t4\t0\tH\t0\t30\t0\t-100\t-150\t-80\nacct\t5\t0\tH\t0\t0\t0\t-100\t-150\t0\nacct\t6\t0\tH\t0\t200\t0\t0\t0\t0\nend\n" gives "day\t1\t560\t340\ndaily\t1\t100\t178571428572\t6071\t6679\t13357\ndaily\t2\t120\t214285714286\t7286\t8014\t16029\ndaily\t3\t120\t214285714286\t7286\t8014\t16029\ndaily\t4\t100\t178571428572\t6071\t6679\t13357\ndaily\t5\t120\t214285714286\t7286\t8014\t16029\ndaily\t6\t0\t0\t0\t0\t0\ntotal\t560\t1000000000002\t34000\t37400\t74801\nday\t2\t560\t340\ndaily\t1\t100\t178571428572\t6071\t6679\t13357\ndaily\t2\t150\t267857142858\t9107\t10018\t20036\ndaily\t3\t40\t71428571429\t2429\t2671\t5343\ndaily\t4\t120\t214285714286\t7286\t8014\t16029\ndaily\t5\t150\t267857142858\t9107\t10018\t20036\ndaily\t6\t0\t0\t0\t0\t0\ntotal\t560\t1000000000003\t34000\t37400\t74801\nfund\t2\t340\t300000000\ncontribution\t1\t67\t50000000\t100000000\ncontribution\t2\t91\t50000000\t100000000\ncontribution\t3\t54\t50000000\t100000000\ncontribution\t4\t74\t50000000\t100000000\ncontribution\t5\t91\t50000000\t100000000\ncontribution\t6\t0\t50000000\t100000000\n")
+    -- four days, of which the second and the third report the first one's and the fourth its own
+    ∷ ("period\t4\t1\nmember\t1\t0\nmember\t2\t0\nmember\t3\t0\nmember\t4\t0\nday\t1\t4\nacct\t1\t0\tH\t0\t0\t0\t-257\nacct\t2\t0\tH\t0\t0\t0\t-85\nacct\t3\t0\tH\t0\t0\t0\t-403\nacct\t4\t0\tH\t0\t0\t0\t-55\nday\t2\t4\nacct\t1\t0\tH\t0\t0\t0\t-7\nacct\t2\t0\tH\t0\t0\t0\t-4\nacct\t3\t0\tH\t0\t0\t0\t0\nacct\t4\t0\tH\t0\t0\t0\t-5\nday\t3\t4\nacct\t1\t0\tH\t0\t0\t0\t-7\nacct\t2\t0\tH\t0\t0\t0\t-8\nacct\t3\t0\tH\t0\t0\t0\t0\nacct\t4\t0\tH\t0\t0\t0\t-1\nday\t4\t4\nacct\t1\t0\tH\t0\t0\t0\t-4384\nacct\t2\t0\tH\t0\t0\t0\t-2784\nacct\t3\t0\tH\t0\t0\t0\t-698\nacct\t4\t0\tH\t0\t0\t0\t-134\nend\n" gives "day\t1\t800\t403\ndaily\t1\t257\t321250000000\t12946\t14241\t28482\ndaily\t2\t85\t106250000000\t4282\t4710\t9420\ndaily\t3\t403\t503750000000\t20301\t22331\t44662\ndaily\t4\t55\t68750000000\t2771\t3048\t6095\ntotal\t800\t1000000000000\t40300\t44330\t88659\nday\t2\t16\t403\ndaily\t1\t7\t437500000000\t17631\t19394\t38789\ndaily\t2\t4\t250000000000\t10075\t11083\t22165\ndaily\t3\t0\t0\t0\t0\t0\ndaily\t4\t5\t312500000000\t12594\t13853\t27706\ntotal\t16\t1000000000000\t40300\t44330\t88660\nday\t3\t16\t403\ndaily\t1\t7\t437500000000\t17631\t19394\t38789\ndaily\t2\t8\t500000000000\t20150\t22165\t44330\ndaily\t3\t0\t0\t0\t0\t0\ndaily\t4\t1\t62500000000\t2519\t2771\t5541\ntotal\t16\t1000000000000\t40300\t44330\t88660\nday\t4\t8000\t4384\ndaily\t1\t4384\t548000000000\t240243\t264268\t528535\ndaily\t2\t2784\t348000000000\t152563\t167820\t335639\ndaily\t3\t698\t87250000000\t38250\t42075\t84151\ndaily\t4\t134\t16750000000\t7343\t8078\t16155\ntotal\t8000\t1000000000000\t438399\t482241\t964480\nfund\t4\t4384\t200000000\ncontribution\t1\t2103\t50000000\t100000000\ncontribution\t2\t1452\t50000000\t100000000\ncontribution\t3\t713\t50000000\t100000000\ncontribution\t4\t556\t50000000\t100000000\n")
+    -- own Max EULs of 0, 3 and 1, two scenarios
+    ∷ ("period\t1\t2\nmember\t1\t0\nday\t1\t2\nacct\t1\t0\tH\t0\t11\t0\t-10\t0\nacct\t1\t1\tU\t0\t1\t0\t0\t-2\nday\t2\t2\nacct\t1\t0\tH\t0\t11\t0\t-10\t0\nacct\t1\t1\tU\t0\t1\t0\t0\t-10\nday\t9\t1\nacct\t1\t0\tH\t0\t0\t0\t-1\t-1\nend\n" gives "day\t1\t1\t0\ndaily\t1\t1\t1000000000000\t0\t0\t0\ntotal\t1\t1000000000000\t0\t0\t0\nday\t2\t13\t3\ndaily\t1\t13\t1000000000000\t300\t330\t660\ntotal\t13\t1000000000000\t300\t330\t660\nday\t9\t1\t3\ndaily\t1\t1\t1000000000000\t300\t330\t660\ntotal\t1\t1000000000000\t300\t330\t660\nfund\t3\t3\t50000000\ncontribution\t1\t4\t50000000\t100000000\n")
+    -- two members, three scenarios: two days of a dollar or two between high ones
+    ∷ ("period\t2\t3\nmember\t1\t0\nmember\t2\t0\nday\t17\t2\nacct\t1\t0\tH\t0\t999999999999\t0\t-999999999999\t999999999999\t-999999999999\nacct\t2\t0\tH\t-1\t999999999999\t507703335401\t-1000000000000\t0\t-1\nday\t23\t2\nacct\t1\t0\tH\t1\t0\t0\t0\t0\t0\nacct\t2\t0\tH\t239791355\t8409243506\t0\t-649746677\t8768209439\t293325546\nday\t28\t2\nacct\t1\t0\tH\t4\t32442624\t0\t385\t4\t-32442621\nacct\t2\t0\tH\t-57491423\t952\t0\t-57492376\t929655970474\t-13503539\nday\t29\t2\nacct\t1\t0\tH\t-739884033\t355876735003\t191587142011\t-356616619037\t-739884034\t-767335430\nacct\t2\t0\tH\t-537018870820\t462981129182\t462981129182\t-537018870829\t-1000000000000\t-985218780782\nend\n" gives "day\t17\t507703335401\t507703335401\ndaily\t1\t0\t0\t0\t0\t0\ndaily\t2\t507703335401\t1000000000000\t50770333540100\t55847366894110\t111694733788220\ntotal\t507703335401\t1000000000000\t50770333540100\t55847366894110\t111694733788220\nday\t23\t1\t507703335401\ndaily\t1\t1\t1000000000000\t50770333540100\t55847366894110\t111694733788220\ndaily\t2\t0\t0\t0\t0\t0\ntotal\t1\t1000000000000\t50770333540100\t55847366894110\t111694733788220\nday\t28\t2\t507703335401\ndaily\t1\t1\t500000000000\t25385166770050\t27923683447055\t55847366894110\ndaily\t2\t1\t500000000000\t25385166770050\t27923683447055\t55847366894110\ntotal\t2\t1000000000000\t50770333540100\t55847366894110\t111694733788220\nday\t29\t654568271192\t507703335401\ndaily\t1\t191587142012\t292692375180\t14860089512482\t16346098463730\t32692196927461\ndaily\t2\t462981129180\t707307624821\t35910244027618\t39501268430380\t79002536860759\ntotal\t654568271192\t1000000000001\t50770333540100\t55847366894110\t111694733788220\nfund\t4\t507703335401\t558473668942\ncontribution\t1\t250292872013\t250292872013\t500585744026\ncontribution\t2\t308180796929\t308180796929\t616361593858\n")
     ∷ []
 
 -- Up to here it is written.

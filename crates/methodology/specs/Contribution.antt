@@ -1,6 +1,6 @@
 -- Document 01, "From days to the contribution": from the days of a period to each member's charge; 001, 6.1.1(i) and (ii), 6.1.2. By
 -- document 02's Change 2 a period may have none: "A closing with no accepted day now gives M 0, D 0, raw 0 and funded 50,000,000 for every
--- member."
+-- member." By its Change 3 the days before it decide on the Max EUL that a day reports.
 use mathlib.Core.Bool.{cond}
 use mathlib.Core.List.{List, [], _∷_, flatMap}
 use Prim.Native.Nat.{ℕ, _-_, _*_, max}
@@ -12,17 +12,22 @@ use Rattle.numbers.specs.Rounding.{ceilDiv}
 use Rattle.methodology.specs.declared.Opening.{Opening}
 use Rattle.methodology.specs.Account.{Account, members}
 use Rattle.methodology.specs.Member.{loss}
-use Rattle.methodology.specs.Day.{total, maxEul, scale, share}
+use Rattle.methodology.specs.Day.{total, ownMaxEul, scale, share}
 
 -- a day that was accepted, "with its number and accounts"
 pub record KeptDay : Type 0 where
   pub number : ℕ
   pub accounts : List Account
 
+-- Document 02, Change 3: the Max EUL that a day reports is "the highest own-day figure from the period's first accepted day to this one".
+-- The days are those accepted since the last accepted opening, up to this one and with it.
+unfoldable pub reportedMaxEul : Opening → List KeptDay → ℕ
+reportedMaxEul o days = greatest days (λ d. ownMaxEul o (d .accounts))
+
 -- M. "M is the highest Max EUL among the days accepted since the last accepted opening, D their number": D is the length of the list. With
--- no day both are 0, as the greatest of none is.
+-- no day both are 0, as the greatest of none is. Each day's Max EUL is its own here: "M does not change" (Change 3).
 unfoldable pub highest : Opening → List KeptDay → ℕ
-highest o days = greatest days (λ d. maxEul o (d .accounts))
+highest o days = greatest days (λ d. ownMaxEul o (d .accounts))
 
 -- the "sum of the member's shares"
 unfoldable pub sumOfShares : Opening → List KeptDay → (m : ℕ) → ℕ

@@ -1,4 +1,5 @@
--- Document 01, "From members to the day": T, group sums, Max EUL, and a member's five daily numbers; 001, 6.1.1(5) to (7) and 6.1.2.
+-- Document 01, "From members to the day": T, group sums, a day's own Max EUL, and a member's five daily numbers; 001, 6.1.1(5) to (7) and
+-- 6.1.2. By document 02's Change 3 the Max EUL in these numbers is the one that the day reports: `reportedMaxEul` in Contribution.antt.
 use mathlib.Core.Bool.{cond}
 use mathlib.Core.List.{List, [], _∷_, flatMap}
 use Prim.Native.Nat.{ℕ, _-_, _*_, max}
@@ -32,10 +33,10 @@ groupOf o m =
 unfoldable pub groupSum : Opening → List Account → (m j : ℕ) → ℤ
 groupSum o accts m j = Σℤ (groupOf o m) (λ m′. memberUnder accts m′ j)
 
--- "A day's Max EUL is the greatest of 0, all members' EULs under all j, and all group sums under all j, on that day." The greatest of 0
--- and some numbers is the greatest of their ⁺, and every group is that of a member.
-unfoldable pub maxEul : Opening → List Account → ℕ
-maxEul o accts =
+-- The day's own Max EUL, from its accounts alone. "A day's Max EUL is the greatest of 0, all members' EULs under all j, and all group sums
+-- under all j, on that day." The greatest of 0 and some numbers is the greatest of their ⁺, and every group is that of a member.
+unfoldable pub ownMaxEul : Opening → List Account → ℕ
+ownMaxEul o accts =
     max
     (greatest (members (o .n)) (λ m. greatest (scenarios (o .k)) (λ j. memberUnder accts m j ⁺)))
     (greatest (members (o .n)) (λ m. greatest (scenarios (o .k)) (λ j. groupSum o accts m j ⁺)))
@@ -49,7 +50,8 @@ unfoldable pub share : (e T : ℕ) → ℕ
 share e T = ceilDiv (e * scale) T
 
 -- "Daily value, reserve and estimate, in cents, are 100·e·Max/T, 110·e·Max/T and 220·e·Max/T (Max is the day's Max EUL), each rounded to
--- the nearest from the exact fraction, a half up."
+-- the nearest from the exact fraction, a half up." Max is the one reported, "in the result, the report and the three cent figures" (Change
+-- 3), and may be above T.
 unfoldable pub value : (e Max T : ℕ) → ℕ
 value e Max T = roundDiv (100 * e * Max) T
 
@@ -64,5 +66,5 @@ unfoldable pub five : (e Max T : ℕ) → List ℕ
 five e Max T = e ∷ share e T ∷ value e Max T ∷ reserve e Max T ∷ estimate e Max T ∷ []
 
 -- what a day writes: "5 numbers a member [..], each member's five into its own stretch"
-unfoldable pub dailies : Opening → List Account → List ℕ
-dailies o accts = flatMap (λ m. five (loss (o .k) accts m) (maxEul o accts) (total o accts)) (members (o .n))
+unfoldable pub dailies : Opening → (Max : ℕ) → List Account → List ℕ
+dailies o Max accts = flatMap (λ m. five (loss (o .k) accts m) Max (total o accts)) (members (o .n))

@@ -9,8 +9,8 @@ use Rattle.methodology.specs.declared.Refusal.{Refusal}
 use Rattle.methodology.specs.declared.Refusal.the-variants.{Clear, Row, RowAt}
 use Rattle.methodology.specs.declared.Opening.{Opening}
 use Rattle.methodology.specs.Account.{DayInput, noOpening, accounts}
-use Rattle.methodology.specs.Day.{total, maxEul, dailies}
-use Rattle.methodology.specs.Contribution.{KeptDay, highest, contributions, totalFunded}
+use Rattle.methodology.specs.Day.{total, dailies}
+use Rattle.methodology.specs.Contribution.{KeptDay, reportedMaxEul, highest, contributions, totalFunded}
 use Rattle.methodology.specs.Refusals.{openingRefusal, dayRefusal, closingRefusal}
 
 -- A call: "the arguments of each call as they stand at that call, the output's length among them", which is `room`.
@@ -71,18 +71,17 @@ pub data Answer : Type 0 where
   refusedAt : (number index : ℕ) → Answer
 
 -- The figures that an accepted call returns, "worked from that call's arguments and the register as the call leaves it" (demand 3): a day
--- "returns T and Max EUL", a closing "returns D, M and the total funded".
+-- "returns T and Max EUL", a closing "returns D, M and the total funded". A day's Max EUL is the one that it reports (document 02, Change
+-- 3), over the days that the register keeps, this one among them.
 unfoldable pub returned : (after : Register) → Call → List ℕ
 returned g (opening o) = []
-returned g (day d room) =
-    let accts = accounts (g .held .k) d in
-    total (g .held) accts ∷ maxEul (g .held) accts ∷ []
+returned g (day d room) = total (g .held) (accounts (g .held .k) d) ∷ reportedMaxEul (g .held) (g .days) ∷ []
 returned g (closing room) = length (g .days) ∷ highest (g .held) (g .days) ∷ totalFunded (g .held) (g .days) ∷ []
 
 -- what an accepted call writes to its lent buffer; an opening is lent none
 unfoldable pub written : (after : Register) → Call → List ℕ
 written g (opening o) = []
-written g (day d room) = dailies (g .held) (accounts (g .held .k) d)
+written g (day d room) = dailies (g .held) (reportedMaxEul (g .held) (g .days)) (accounts (g .held .k) d)
 written g (closing room) = contributions (g .held) (g .days)
 
 abbrev pub answerBy : Refusal → (figures : List ℕ) → Answer

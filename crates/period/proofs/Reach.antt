@@ -14,7 +14,7 @@ use Rattle.methodology.specs.declared.Status.{Status}
 use Rattle.methodology.specs.declared.Status.the-variants.{Fresh, Open, Closed}
 use Rattle.methodology.specs.declared.Opening.{Opening}
 use Rattle.methodology.specs.Account.{DayInput}
-use Rattle.methodology.specs.Day.{total, maxEul, scale}
+use Rattle.methodology.specs.Day.{total, ownMaxEul, scale}
 use Rattle.methodology.specs.Refusals.{isOpen, badOpening, openingRefusal}
 use Rattle.methodology.proofs.Passed.{passed, either, number-rises}
 use Rattle.quotient.specs.Ranges.{greatestTotal}
@@ -52,7 +52,7 @@ module _ (p : Period) (d : DayInput) {room : ℕ} (s : Admits p d room) (positiv
       rw (
         le-leb (d .terms .number) 31 a,
         le-leb (p .accrued .days + 1) (d .terms .number) (omega (arith, r .counted)),
-        le-leb (max (p .accrued .highest) (maxEul (heldBy p) (accountsBrought p d))) greatestTotal (omega (arith, r .bounded, max-le-total (heldBy p) (accountsBrought p d), total-few s)),
+        le-leb (max (p .accrued .highest) (ownMaxEul (heldBy p) (accountsBrought p d))) greatestTotal (omega (arith, r .bounded, max-le-total (heldBy p) (accountsBrought p d), total-few s)),
         r .opened,
         sums-few,
       )

@@ -18,7 +18,7 @@ use Rattle.methodology.specs.declared.Refusal.the-variants.{Clear, Row, RowAt}
 use Rattle.methodology.specs.declared.Opening.{Opening}
 use Rattle.methodology.specs.Account.{withGroups, DayInput, Account, members, accounts}
 use Rattle.methodology.specs.Member.{loss}
-use Rattle.methodology.specs.Day.{total, maxEul, share, dailies}
+use Rattle.methodology.specs.Day.{total, ownMaxEul, share, dailies}
 use Rattle.methodology.specs.Contribution.{KeptDay, highest, sumOfShares, funded, three}
 use Rattle.methodology.specs.Refusals.{isOpen, openingRefusal, beforeFigures, dayRefusal, closingRefusal}
 use Rattle.methodology.specs.Register.{Call, Register, start, lastNumber, refusal, accept, ifAccepted, step, returned, written, Answer, accepted, answerBy, answer, buffer}
@@ -171,7 +171,7 @@ module _ (g : Register) (q : Good g) (d : DayInput) where
       let same = held-is g q in
       ap (withAccrued (periodOf g))
       (by-fields refl (add-one (length (g .days)))
-      (ap (λ (o : Opening). max (highest (g .held) (g .days)) (maxEul o accts)) same ∙ max-other (highest (g .held) (g .days)) (maxEul (g .held) accts))
+      (ap (λ (o : Opening). max (highest (g .held) (g .days)) (ownMaxEul o accts)) same ∙ max-other (highest (g .held) (g .days)) (ownMaxEul (g .held) accts))
       (ap (λ (o : Opening). map (λ i. getD (map (sumAt (g .held) (g .days)) (range 0 32)) i 0 + shareOf o i) (range 0 32)) same ∙ more-sums))
 
   sized-good : (room : ℕ) → 0 < total (heldBy (periodOf g)) (accountsBrought (periodOf g) d) → Good (accept g (Call.day d room))
@@ -183,7 +183,7 @@ module _ (g : Register) (q : Good g) (d : DayInput) where
         counted = (rw (held-is g q) at t, q .counted);
       }
 
-  day-says : (room : ℕ) → total (heldBy (periodOf g)) (accountsBrought (periodOf g) d) ∷ maxEul (heldBy (periodOf g)) (accountsBrought (periodOf g) d) ∷ [] ≡ returned (accept g (Call.day d room)) (Call.day d room)
+  day-says : (room : ℕ) → total (heldBy (periodOf g)) (accountsBrought (periodOf g) d) ∷ ownMaxEul (heldBy (periodOf g)) (accountsBrought (periodOf g) d) ∷ [] ≡ returned (accept g (Call.day d room)) (Call.day d room)
   unfolding periodOf accept returned
   day-says room = rw (held-is g q)
 
@@ -202,7 +202,7 @@ day-follows {g} {p} {d} {before} f m =
       leads g c (dayRow p d room) same f (m .period) (by-day (f .reached) m)
           (λ e. (ap (λ (p : Period). sizedPeriod p d) (f .is) ∙ sized-is g (f .good) d room, sized-good g (f .good) d room (positive e))),
       tells g c (dayRow p d room) same _ (m .answer)
-          (λ e. ap (λ (p : Period). total (heldBy p) (accountsBrought p d) ∷ maxEul (heldBy p) (accountsBrought p d) ∷ []) (f .is) ∙ day-says g (f .good) d room),
+          (λ e. ap (λ (p : Period). total (heldBy p) (accountsBrought p d) ∷ ownMaxEul (heldBy p) (accountsBrought p d) ∷ []) (f .is) ∙ day-says g (f .good) d room),
       fills g c (dayRow p d room) same _ before (m .buffer)
           (λ e. ap (λ (p : Period). dailies (heldBy p) (accountsBrought p d)) (f .is) ∙ day-writes g (f .good) d room),
     )

@@ -16,7 +16,7 @@ use Rattle.methodology.specs.declared.DayTerms.{DayTerms}
 use Rattle.methodology.specs.declared.Refusal.the-variants.{Clear}
 use Rattle.methodology.specs.Account.{DayInput, Account}
 use Rattle.methodology.specs.Member.{loss}
-use Rattle.methodology.specs.Day.{total, maxEul, scale, share, five, dailies}
+use Rattle.methodology.specs.Day.{total, ownMaxEul, scale, share, five, dailies}
 use Rattle.methodology.specs.Refusals.{isOpen, badOutput, badAmount, beforeFigures}
 use Rattle.methodology.proofs.Passed.{passed, passed-rows}
 use Rattle.methodology.proofs.RowLimits.{accounts-long}
@@ -130,7 +130,7 @@ module _ (p : Period) (d : DayInput) where
   shares-few positive i h = rw (sym (share-at i), lt-ltb i (p .held .n) h) at (share-few p d positive i)
 
   -- so the period that takes them in is the one that the accounts give
-  pub taken-in : (top : ℕ) → top ≡ maxEul (heldBy p) (accountsBrought p d) → (out : List ℕ) → out ≡ dailies (heldBy p) (accountsBrought p d)
+  pub taken-in : (top : ℕ) → top ≡ ownMaxEul (heldBy p) (accountsBrought p d) → (out : List ℕ) → out ≡ dailies (heldBy p) (accountsBrought p d)
       → withDay p (d .terms) top out ≡ sizedPeriod p d
   taken-in top e out w =
       rw (e, w) (ap (withAccrued p) (by-fields refl refl refl (map-eq _ _ (range 0 32) (λ i m. ap (λ (x : ℕ). getD (p .accrued .sums) i 0 + x) (share-at i)))))
@@ -162,7 +162,7 @@ module _ {p : Period} {terms : DayTerms} {members numbers kinds : List ℕ} {npv
     pub total-is : r .losses .total ≡ total (heldBy p) accts
     total-is = found.total-is (heldBy p) accts slices own (r .losses) (are .losses)
 
-    pub top-is : r .top ≡ maxEul (heldBy p) accts
+    pub top-is : r .top ≡ ownMaxEul (heldBy p) accts
     top-is = are .top .is accts slices own
 
     pub top-few : r .top ≤ greatestTotal

@@ -15,7 +15,7 @@ use Rattle.methodology.specs.declared.Opening.{Opening}
 use Rattle.methodology.specs.declared.DayTerms.{DayTerms}
 use Rattle.methodology.specs.Account.{noOpening, DayInput, Account, accounts}
 use Rattle.methodology.specs.Member.{loss}
-use Rattle.methodology.specs.Day.{total, maxEul, scale, share, dailies}
+use Rattle.methodology.specs.Day.{total, ownMaxEul, scale, share, dailies}
 use Rattle.methodology.specs.Contribution.{charge, funded, three}
 use Rattle.methodology.specs.Refusals.{badOpening, openingRefusal, dayRefusal, closingRefusal}
 use Rattle.methodology.specs.Register.{ifAccepted, answerBy}
@@ -99,13 +99,13 @@ takenIn a terms top share =
 
 -- the period after it
 abbrev pub sizedPeriod : Period → DayInput → Period
-sizedPeriod p d = withAccrued p (takenIn (p .accrued) (d .terms) (maxEul (heldBy p) (accountsBrought p d)) (shareAt p d))
+sizedPeriod p d = withAccrued p (takenIn (p .accrued) (d .terms) (ownMaxEul (heldBy p) (accountsBrought p d)) (shareAt p d))
 
 -- A day "returns T and Max EUL" and writes "5 numbers a member". A refused one leaves the period and the buffer as before.
 pub record DayMeets (p : Period) (d : DayInput) (before : List ℕ) (r : Reply) (after : List ℕ) : Type 0 where
   pub answer :
       answerOf (r .outcome)
-      ≡ answerBy (dayRow p d (length before)) (total (heldBy p) (accountsBrought p d) ∷ maxEul (heldBy p) (accountsBrought p d) ∷ [])
+      ≡ answerBy (dayRow p d (length before)) (total (heldBy p) (accountsBrought p d) ∷ ownMaxEul (heldBy p) (accountsBrought p d) ∷ [])
   pub period : r .period ≡ ifAccepted (dayRow p d (length before)) (sizedPeriod p d) p
   pub buffer : after ≡ ifAccepted (dayRow p d (length before)) (dailies (heldBy p) (accountsBrought p d)) before
 

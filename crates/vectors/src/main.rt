@@ -51,12 +51,12 @@ fn run(text: &mut [u8], heading: &mut [u8], out: &mut [u8]) {
     }
 }
 
-fn lend(text: &mut [u8; 262144], heading: &mut [u8; 64], out: &mut [u8; 262144]) {
+fn lend(text: &mut [u8; 524288], heading: &mut [u8; 64], out: &mut [u8; 262144]) {
     run(text, heading, out);
 }
 
 fn main() {
-    let mut text = [0; 262144];
+    let mut text = [0; 524288];
     let mut heading = [0; 64];
     let mut out = [0; 262144];
     lend(&mut text, &mut heading, &mut out);

@@ -1,10 +1,10 @@
--- `max_eul` meets its contract: the pass of `MaxPass`, member by member.
+-- `own_max_eul` meets its contract: the pass of `MaxPass`, member by member.
 use borrow.Author.Needs.{needs}
 use Prim.Native.Nat.{_-_}
 use Rattle.exposure.proofs.MaxPass.{MaxPass, max-none, max-more, max-all, rows-shape, row-near}
 use Rattle.exposure.proofs.Members.{cut-inside}
-use Rattle.exposure.proofs.day.max_eul.Statement.{statement}
-use Rattle.exposure.proofs.day.max_eul.Tie as tie
+use Rattle.exposure.proofs.day.own_max_eul.Statement.{statement}
+use Rattle.exposure.proofs.day.own_max_eul.Tie as tie
 
 abbrev Inv-loop : tie.InvT-loop
 Inv-loop members kinds npvs margins extras opening n k rows₀ top₀ at₀ i₀ rows top at i = MaxPass opening members kinds npvs margins extras rows top at i
@@ -78,8 +78,8 @@ returns c =
     let s = at-start l .pre in
     max-all (s .0) (l .loop .inv) (c .before .before .loop-test .left) (s .1) _ _ (c .before .rows-greatest .ensures) (c .greater2 .ensures)
 
-pub max-eul-spec : {M : Type 1} → statement M
-max-eul-spec =
+pub own-max-eul-spec : {M : Type 1} → statement M
+own-max-eul-spec =
     tie.close
     (tie.spec
     Inv-loop
