@@ -12,7 +12,7 @@ use Rattle.methodology.specs.declared.Refusal.the-variants.{Clear, Row, RowAt}
 use Rattle.methodology.specs.declared.Status.{Status}
 use Rattle.methodology.specs.declared.Opening.{Opening}
 use Rattle.methodology.specs.Account.{DayInput}
-use Rattle.methodology.specs.Day.{total, ownMaxEul, dailies}
+use Rattle.methodology.specs.Day.{total, dailies}
 use Rattle.methodology.specs.Refusals.{row_when_else_, isOpen, badOpening, openingRefusal, closingRefusal}
 use Rattle.methodology.specs.Register.{accepted, answerBy}
 use Rattle.methodology.proofs.RowLimits.{day-few}
@@ -21,7 +21,7 @@ use Rattle.period.specs.declared.Outcome.the-variants.{Opened, Sized, Closed, R
 use Rattle.period.specs.declared.Period.{Period}
 use Rattle.period.specs.declared.Reply.{Reply}
 use Rattle.period.specs.Reading.{answerOf}
-use Rattle.period.specs.Calls.{heldBy, statusOf, openingRow, OpeningMeets, accountsBrought, dayRow, DayMeets, closingRow, ClosingMeets}
+use Rattle.period.specs.Calls.{heldBy, statusOf, openingRow, OpeningMeets, accountsBrought, dayRow, reportedBy, DayMeets, closingRow, ClosingMeets}
 use Rattle.period.proofs.Sizing.{Admits, passes-all, written-few}
 use Rattle.fund.proofs.Dailies.{Few}
 use Rattle.answers.specs.Said.{widthSaid, lineSaid, sumsSaid}
@@ -102,13 +102,13 @@ day-width n (unsized-at number index h) = omega arith
 
 -- what a day that is told as accepted has passed and written
 module _ {p : Period} {d : DayInput} {before after : List ℕ} {r : Reply} (m : DayMeets p d before r after) {T top : ℕ} (is : r .outcome ≡ Sized T top) where
-  told : (dayRow p d (length before) ≡ Clear) × (total (heldBy p) (accountsBrought p d) ∷ ownMaxEul (heldBy p) (accountsBrought p d) ∷ [] ≡ T ∷ top ∷ [])
+  told : (dayRow p d (length before) ≡ Clear) × (total (heldBy p) (accountsBrought p d) ∷ reportedBy p d ∷ [] ≡ T ∷ top ∷ [])
   told = is-clear (dayRow p d (length before)) _ _ (sym (m .answer) ∙ ap answerOf is)
 
   sized-passes : Admits p d (length before) × (0 < total (heldBy p) (accountsBrought p d))
   sized-passes = passes-all p d (length before) (told .0)
 
-  sized-writes : after ≡ dailies (heldBy p) (accountsBrought p d)
+  sized-writes : after ≡ dailies (heldBy p) (reportedBy p d) (accountsBrought p d)
   sized-writes = m .buffer ∙ rw (told .0)
 
 pub day-sums : {p : Period} {d : DayInput} {before after : List ℕ} {r : Reply} → DayMeets p d before r after → (n : ℕ) → n ≤ 32

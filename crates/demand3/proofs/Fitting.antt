@@ -1,5 +1,5 @@
--- Every number that a contract names fits 64 bits, on any period: a row's number and index, a day's figures by the bound of T, a closing's
--- by the range of an open period.
+-- Every number that a contract names fits 64 bits, on any period: a row's number and index, a day's figures by the bound of T and the
+-- range of an open period, a closing's by that range.
 use mathlib.Core.Path.{_≡_, refl, sym, ap, subst, _∙_}
 use mathlib.Core.Bool.{true, false}
 use mathlib.Core.List.{List, [], _∷_, flatMap}
@@ -16,7 +16,7 @@ use Rattle.methodology.specs.declared.Refusal.{Refusal}
 use Rattle.methodology.specs.declared.Refusal.the-variants.{Clear, Row, RowAt}
 use Rattle.methodology.specs.declared.Opening.{Opening}
 use Rattle.methodology.specs.Account.{noOpening, DayInput}
-use Rattle.methodology.specs.Day.{total, ownMaxEul, scale, dailies}
+use Rattle.methodology.specs.Day.{total, scale, dailies}
 use Rattle.methodology.specs.Contribution.{funded, unfunded, three}
 use Rattle.methodology.specs.Refusals.{isOpen, badOpening, openingRefusal}
 use Rattle.methodology.specs.Register.{ifAccepted, accepted, answerBy}
@@ -26,17 +26,16 @@ use Rattle.quotient.specs.Ranges.{greatestTotal}
 use Rattle.validation.specs.Slices.{inPlaces}
 use Rattle.validation.proofs.OpeningPasses.{opening-leaves}
 use Rattle.validation.proofs.DayPasses.{sized}
-use Rattle.exposure.proofs.MaxTotal.{max-le-total}
 use Rattle.period.specs.declared.Period.{Period}
 use Rattle.period.specs.declared.Outcome.{Outcome}
 use Rattle.period.specs.declared.Outcome.the-variants as says
 use Rattle.period.specs.declared.Reply.{Reply}
 use Rattle.period.specs.Reading.{answerOf}
-use Rattle.period.specs.Calls.{freshPeriod, heldBy, inRange, statusOf, openingRow, openedPeriod, accountsBrought, dayRow, shareAt, sizedPeriod, closingRow, sumsHeld, chargeBy, closedPeriod}
+use Rattle.period.specs.Calls.{freshPeriod, heldBy, inRange, statusOf, openingRow, openedPeriod, accountsBrought, dayRow, shareAt, reportedBy, sizedPeriod, closingRow, sumsHeld, chargeBy, closedPeriod}
 use Rattle.fund.proofs.RawCharge.{charge-le}
 use Rattle.fund.proofs.Dailies.{Few, dailies-long}
 use Rattle.period.proofs.InRange.{ranged}
-use Rattle.period.proofs.Sizing.{Admits, passes-all, total-few, written-few}
+use Rattle.period.proofs.Sizing.{Admits, passes-all, total-few, reported-few, written-few}
 use Rattle.period.proofs.Closings.{Closable, closable, in-range}
 use Rattle.period.proofs.Reach.{sized-in-range}
 use Rattle.demand3.proofs.Covering.{three-wide}
@@ -65,12 +64,12 @@ indexed P xs h = mem-every P xs (by-index P xs 0 (λ i l. h i))
 -- ---- a day that is accepted
 
 dailies-fit : (p : Period) (d : DayInput) (room : ℕ) → Admits p d room × (0 < total (heldBy p) (accountsBrought p d))
-    → Every Fits64 (dailies (heldBy p) (accountsBrought p d))
-dailies-fit p d room (s, t) = every-weaken Few Fits64 (λ x few. omega arith) (dailies (heldBy p) (accountsBrought p d)) (written-few s t)
+    → Every Fits64 (dailies (heldBy p) (reportedBy p d) (accountsBrought p d))
+dailies-fit p d room (s, t) = every-weaken Few Fits64 (λ x few. omega arith) (dailies (heldBy p) (reportedBy p d) (accountsBrought p d)) (written-few s t)
 
-day-figures-fit : (p : Period) (d : DayInput) (room : ℕ) → Admits p d room × (0 < total (heldBy p) (accountsBrought p d)) → Every Fits64 (total (heldBy p) (accountsBrought p d) ∷ ownMaxEul (heldBy p) (accountsBrought p d) ∷ [])
-day-figures-fit p d room (s, t) =
-    (omega (arith, total-few s), (omega (arith, total-few s, max-le-total (heldBy p) (accountsBrought p d)), tt))
+day-figures-fit : (p : Period) (d : DayInput) (room : ℕ) → Admits p d room × (0 < total (heldBy p) (accountsBrought p d))
+    → Every Fits64 (total (heldBy p) (accountsBrought p d) ∷ reportedBy p d ∷ [])
+day-figures-fit p d room (s, t) = (omega (arith, total-few s), (omega (arith, reported-few s), tt))
 
 -- ---- a closing that is accepted
 
@@ -175,7 +174,7 @@ fits {p} q (Asked.day d out) r after m =
       answer = rw (m .answer) (answer-fits x _ (day-row-few p d (length out)) (λ e. day-figures-fit p d (length out) (pass e)));
       period = subst Narrow (sym (m .period)) (either Narrow x _ p (λ e. narrow-sized p d (sized-in-range p d (pass e .0) (pass e .1)) q) q);
       buffer = λ b. subst (Every Fits64) (sym (m .buffer)) (either (Every Fits64) x _ out (λ e. dailies-fit p d (length out) (pass e)) b);
-      long = ap length (m .buffer) ∙ either (λ (l : List ℕ). length l ≡ length out) x _ out (λ e. dailies-long (heldBy p) (accountsBrought p d) ∙ sym (pass e .0 .room-long)) refl;
+      long = ap length (m .buffer) ∙ either (λ (l : List ℕ). length l ≡ length out) x _ out (λ e. dailies-long (heldBy p) (reportedBy p d) (accountsBrought p d) ∙ sym (pass e .0 .room-long)) refl;
     }
 fits {p} q (Asked.closing out) r after m =
     let x = closingRow p (length out) in
@@ -210,9 +209,9 @@ makes p (Asked.opening o) =
 makes p (Asked.day d out) =
     let x = dayRow p d (length out) in
     let accts = accountsBrought p d in
-    let sized = says.Sized (total (heldBy p) accts) (ownMaxEul (heldBy p) accts) in
+    let sized = says.Sized (total (heldBy p) accts) (reportedBy p d) in
     let r : Reply = record { outcome = outcomeBy x sized; period = ifAccepted x (sizedPeriod p d) p } in
-    (r, ifAccepted x (dailies (heldBy p) accts) out, record { answer = answered x _ _ refl; period = refl; buffer = refl })
+    (r, ifAccepted x (dailies (heldBy p) (reportedBy p d) accts) out, record { answer = answered x _ _ refl; period = refl; buffer = refl })
 makes p (Asked.closing out) =
     let x = closingRow p (length out) in
     let closed = says.Closed (p .accrued .days) (p .accrued .highest) (Σ (sumsHeld p) (λ s. funded (chargeBy p s))) in

@@ -4,16 +4,14 @@ use Prim.Native.Nat.{ℕ}
 use lib.ListN.{replicate, length-replicate}
 use Rattle.numbers.specs.Lists.{Every}
 use Rattle.methodology.specs.declared.Refusal.the-variants.{Clear}
-use Rattle.methodology.specs.declared.Opening.{Opening}
-use Rattle.methodology.specs.Account.{DayInput, accounts}
-use Rattle.methodology.specs.Day.{dailies}
-use Rattle.methodology.specs.Register.{Call, Register, start, refusal, accept, step, returned, written, answer, buffer}
+use Rattle.methodology.specs.Account.{DayInput}
+use Rattle.methodology.specs.Register.{Call, Register, start, refusal, step, returned, written, answer, buffer}
 use Rattle.methodology.proofs.Passed.{step-clear}
 use Rattle.fund.proofs.Dailies.{Few}
 use Rattle.period.specs.declared.Period.{Period}
 use Rattle.period.specs.Follows.{Follows}
 use Rattle.period.proofs.Sizing.{passes-all, written-few}
-use Rattle.period.proofs.Simulation.{starts, held-by, day-row}
+use Rattle.period.proofs.Simulation.{starts, day-row, day-writes}
 use Rattle.demand3.specs.Made.{Asked, lent, callOf}
 use Rattle.demand3.specs.Demand3.{Fits64, Narrow}
 use Rattle.demand3.proofs.EveryList.{agrees}
@@ -57,8 +55,7 @@ call-fits {g} k (Call.closing room) =
 -- a day's numbers are so small that sums of them fit too
 pub writes-few : {g : Register} → Kept g → (d : DayInput) (room : ℕ) → refusal g (Call.day d room) ≡ Clear
     → Every Few (written (step g (Call.day d room)) (Call.day d room))
-unfolding written accept
 writes-few {g} k d room clear =
+    let call = Call.day d room in
     let (s, positive) = passes-all (k .period) d room (day-row (k .follows) d room ∙ clear) in
-    let held = held-by (k .follows) ∙ ap (λ (g : Register). g .held) (sym (step-clear g (Call.day d room) clear)) in
-    subst (λ (o : Opening). Every Few (dailies o (accounts (o .k) d))) held (written-few s positive)
+    subst (Every Few) (day-writes (k .follows) d room ∙ ap (λ (g : Register). written g call) (sym (step-clear g call clear))) (written-few s positive)

@@ -1,5 +1,5 @@
 -- What a day writes for a list of losses is `dailies`, when these are the members' losses of the day; where each share stands in it, and how
--- large a number can be.
+-- large a number can be, whichever Max EUL it is written by.
 use mathlib.Core.Path.{_≡_, refl, ap, _∙_}
 use mathlib.Core.List.{List, map, flatMap}
 use Prim.Native.Nat.{ℕ, _+_, _*_, _<_, _≤_}
@@ -12,15 +12,15 @@ use Rattle.numbers.proofs.Rows.{flatMap-map, rows-length, rows-at}
 use Rattle.methodology.specs.declared.Opening.{Opening}
 use Rattle.methodology.specs.Account.{Account, members}
 use Rattle.methodology.specs.Member.{loss}
-use Rattle.methodology.specs.Day.{total, ownMaxEul, scale, share, value, reserve, estimate, five, dailies}
+use Rattle.methodology.specs.Day.{total, scale, share, value, reserve, estimate, five, dailies}
 use Rattle.quotient.specs.Ranges.{Loss, greatestTotal}
 use Rattle.quotient.proofs.QuotientBounds.{share-le, cents-le}
 use Rattle.fund.specs.Shares.{shareIn}
 
-pub are-dailies : (o : Opening) (accts : List Account) (losses : List ℕ) → take (o .n) losses ≡ map (loss (o .k) accts) (members (o .n))
-    → flatMap (λ e. five e (ownMaxEul o accts) (total o accts)) (take (o .n) losses) ≡ dailies o accts
+pub are-dailies : (o : Opening) (Max : ℕ) (accts : List Account) (losses : List ℕ) → take (o .n) losses ≡ map (loss (o .k) accts) (members (o .n))
+    → flatMap (λ e. five e Max (total o accts)) (take (o .n) losses) ≡ dailies o Max accts
 unfolding dailies
-are-dailies o accts losses h = rw (h, flatMap-map)
+are-dailies o Max accts losses h = rw (h, flatMap-map)
 
 pub five-wide : (e top t : ℕ) → length (five e top t) ≡ 5
 unfolding five
@@ -40,22 +40,22 @@ five-few e top t l high =
     let shared = share-le scale e t (l .positive) (l .part) in
     (omega (arith, l .part, l .bounded), (omega arith, (omega (arith, cents 100), (omega (arith, cents 110), (omega (arith, cents 220), tt)))))
 
-module _ (o : Opening) (accts : List Account) where
-  pub dailies-few : ((m : ℕ) → m ∈ members (o .n) → Loss (loss (o .k) accts m) (total o accts)) → ownMaxEul o accts ≤ greatestTotal → Every Few (dailies o accts)
+module _ (o : Opening) (Max : ℕ) (accts : List Account) where
+  pub dailies-few : ((m : ℕ) → m ∈ members (o .n) → Loss (loss (o .k) accts m) (total o accts)) → Max ≤ greatestTotal → Every Few (dailies o Max accts)
   unfolding dailies
   dailies-few l high = every-flatMap Few _ (members (o .n)) (λ m i. five-few _ _ _ (l m i) high)
 
   abbrev fiveOf : (m : ℕ) → List ℕ
-  fiveOf m = five (loss (o .k) accts m) (ownMaxEul o accts) (total o accts)
+  fiveOf m = five (loss (o .k) accts m) Max (total o accts)
 
-  pub dailies-long : length (dailies o accts) ≡ 5 * o .n
+  pub dailies-long : length (dailies o Max accts) ≡ 5 * o .n
   unfolding dailies
   dailies-long =
-      rows-length 5 fiveOf (λ m. five-wide (loss (o .k) accts m) (ownMaxEul o accts) (total o accts)) (members (o .n)) ∙ ap (λ (n : ℕ). 5 * n) (range-length 1 (o .n))
+      rows-length 5 fiveOf (λ m. five-wide (loss (o .k) accts m) Max (total o accts)) (members (o .n)) ∙ ap (λ (n : ℕ). 5 * n) (range-length 1 (o .n))
 
   -- member i + 1's
-  pub share-written : (i : ℕ) → i < o .n → shareIn (dailies o accts) i ≡ share (loss (o .k) accts (1 + i)) (total o accts)
+  pub share-written : (i : ℕ) → i < o .n → shareIn (dailies o Max accts) i ≡ share (loss (o .k) accts (1 + i)) (total o accts)
   unfolding dailies five
   share-written i h =
-      rows-at 5 fiveOf (λ m. five-wide (loss (o .k) accts m) (ownMaxEul o accts) (total o accts)) (members (o .n)) i 1 0 0 (omega (arith, range-length 1 (o .n))) (omega arith)
+      rows-at 5 fiveOf (λ m. five-wide (loss (o .k) accts m) Max (total o accts)) (members (o .n)) i 1 0 0 (omega (arith, range-length 1 (o .n))) (omega arith)
       ∙ ap (λ (m : ℕ). share (loss (o .k) accts m) (total o accts)) (range-at 1 (o .n) i 0 h)

@@ -2,7 +2,7 @@
 -- By the last call: an opening sets every field, a day that the table lets pass keeps each within its limit, a refusal leaves all.
 use mathlib.Core.Path.{_≡_, refl, sym, subst, _∙_}
 use mathlib.Core.Bool.{Bool, true, false, cond, true≢false}
-use Prim.Native.Nat.{ℕ, _+_, _*_, _≤_, _<_, max}
+use Prim.Native.Nat.{ℕ, _+_, _*_, _≤_, _<_}
 use native.Mathlib.Omega.{arith}
 use lib.Dec.{ltb}
 use lib.ListN.{length, getD}
@@ -14,16 +14,15 @@ use Rattle.methodology.specs.declared.Status.{Status}
 use Rattle.methodology.specs.declared.Status.the-variants.{Fresh, Open, Closed}
 use Rattle.methodology.specs.declared.Opening.{Opening}
 use Rattle.methodology.specs.Account.{DayInput}
-use Rattle.methodology.specs.Day.{total, ownMaxEul, scale}
+use Rattle.methodology.specs.Day.{total, scale}
 use Rattle.methodology.specs.Refusals.{isOpen, badOpening, openingRefusal}
 use Rattle.methodology.proofs.Passed.{passed, either, number-rises}
 use Rattle.quotient.specs.Ranges.{greatestTotal}
-use Rattle.exposure.proofs.MaxTotal.{max-le-total}
 use Rattle.validation.proofs.OpeningPasses.{opening-leaves}
 use Rattle.period.specs.declared.Period.{Period}
-use Rattle.period.specs.Calls.{freshPeriod, heldBy, inRange, statusOf, openingRow, openedPeriod, accountsBrought, dayRow, shareAt, sizedPeriod, closingRow, closedPeriod}
+use Rattle.period.specs.Calls.{freshPeriod, heldBy, inRange, statusOf, openingRow, openedPeriod, accountsBrought, dayRow, shareAt, reportedBy, sizedPeriod, closingRow, closedPeriod}
 use Rattle.period.specs.Follows.{Reached, fresh, by-opening, by-day, by-closing}
-use Rattle.period.proofs.Sizing.{Admits, passes-all, total-few, share-few}
+use Rattle.period.proofs.Sizing.{Admits, passes-all, reported-few, share-few}
 
 -- an opening
 pub held-opened : (o : Opening) → length (o .groups) ≡ o .n → o .n ≤ 32 → heldBy (openedPeriod o) .groups ≡ o .groups
@@ -52,7 +51,7 @@ module _ (p : Period) (d : DayInput) {room : ℕ} (s : Admits p d room) (positiv
       rw (
         le-leb (d .terms .number) 31 a,
         le-leb (p .accrued .days + 1) (d .terms .number) (omega (arith, r .counted)),
-        le-leb (max (p .accrued .highest) (ownMaxEul (heldBy p) (accountsBrought p d))) greatestTotal (omega (arith, r .bounded, max-le-total (heldBy p) (accountsBrought p d), total-few s)),
+        le-leb (reportedBy p d) greatestTotal (reported-few s),
         r .opened,
         sums-few,
       )

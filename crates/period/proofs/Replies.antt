@@ -12,7 +12,7 @@ use Rattle.methodology.specs.declared.Refusal.the-variants.{Clear, Row, RowAt}
 use Rattle.methodology.specs.declared.Status.the-variants.{Open}
 use Rattle.methodology.specs.declared.Opening.{Opening}
 use Rattle.methodology.specs.Account.{withGroups, DayInput}
-use Rattle.methodology.specs.Day.{total, ownMaxEul, dailies}
+use Rattle.methodology.specs.Day.{total, dailies}
 use Rattle.methodology.specs.Contribution.{funded, three}
 use Rattle.methodology.specs.Refusals.{row_when_else_, rows-of_else_, isOpen, badOpening, openingRefusal, dayRefusal}
 use Rattle.methodology.specs.Register.{Answer, ifAccepted, answerBy}
@@ -23,7 +23,7 @@ use Rattle.validation.proofs.OpeningPasses.{opening-leaves}
 use Rattle.period.specs.declared.Period.{Period}
 use Rattle.period.specs.declared.Reply.{Reply}
 use Rattle.period.specs.declared.Outcome.the-variants as says
-use Rattle.period.specs.Calls.{withoutDays, heldBy, statusOf, openingRow, openedPeriod, OpeningMeets, accountsBrought, dayRow, sizedPeriod, DayMeets, closingRow, sumsHeld, chargeBy, closedPeriod, ClosingMeets}
+use Rattle.period.specs.Calls.{withoutDays, heldBy, statusOf, openingRow, openedPeriod, OpeningMeets, accountsBrought, dayRow, reportedBy, sizedPeriod, DayMeets, closingRow, sumsHeld, chargeBy, closedPeriod, ClosingMeets}
 use Rattle.period.specs.Inner.{isRefused, Refuses, earlyRow, withDay}
 
 -- a row that is met decides alone
@@ -103,8 +103,8 @@ module _ (p : Period) (d : DayInput) (out : List ℕ) where
   unfolding row_when_else_ rows-of_else_
   day-clear e h = split-off p d (length out) ∙ rw (e, ne-eqb _ _ h)
 
-  pub day-accepted : dayRow p d (length out) ≡ Clear → (t top : ℕ) (after : List ℕ)
-      → t ≡ total (heldBy p) (accountsBrought p d) → top ≡ ownMaxEul (heldBy p) (accountsBrought p d) → after ≡ dailies (heldBy p) (accountsBrought p d)
-      → withDay p (d .terms) top after ≡ sizedPeriod p d
-      → DayMeets p d out (record { period = withDay p (d .terms) top after; outcome = says.Sized t top }) after
-  day-accepted e t top after a b w q = record { answer = rw (e, a, b); period = q ∙ rw e; buffer = rw (e, w) }
+  pub day-accepted : dayRow p d (length out) ≡ Clear → (t reported : ℕ) (after : List ℕ)
+      → t ≡ total (heldBy p) (accountsBrought p d) → reported ≡ reportedBy p d → after ≡ dailies (heldBy p) (reportedBy p d) (accountsBrought p d)
+      → withDay p (d .terms) reported after ≡ sizedPeriod p d
+      → DayMeets p d out (record { period = withDay p (d .terms) reported after; outcome = says.Sized t reported }) after
+  day-accepted e t reported after a b w q = record { answer = rw (e, a, b); period = q ∙ rw e; buffer = rw (e, w) }

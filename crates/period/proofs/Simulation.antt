@@ -19,7 +19,7 @@ use Rattle.methodology.specs.declared.Opening.{Opening}
 use Rattle.methodology.specs.Account.{withGroups, DayInput, Account, members, accounts}
 use Rattle.methodology.specs.Member.{loss}
 use Rattle.methodology.specs.Day.{total, ownMaxEul, share, dailies}
-use Rattle.methodology.specs.Contribution.{KeptDay, highest, sumOfShares, funded, three}
+use Rattle.methodology.specs.Contribution.{KeptDay, reportedMaxEul, highest, sumOfShares, funded, three}
 use Rattle.methodology.specs.Refusals.{isOpen, openingRefusal, beforeFigures, dayRefusal, closingRefusal}
 use Rattle.methodology.specs.Register.{Call, Register, start, lastNumber, refusal, accept, ifAccepted, step, returned, written, Answer, accepted, answerBy, answer, buffer}
 use Rattle.fund.proofs.Contributions.{are-contributions, is-total-funded}
@@ -28,7 +28,7 @@ use Rattle.period.specs.declared.Reply.{Reply}
 use Rattle.period.specs.Reading.{answerOf}
 use Rattle.period.specs.Registered.{sumAt, periodOf}
 use Rattle.period.specs.Follows.{Reached, fresh, by-opening, by-day, by-closing, Good, Follows}
-use Rattle.period.specs.Calls.{freshPeriod, withAccrued, heldBy, statusOf, openingRow, openedPeriod, OpeningMeets, accountsBrought, dayRow, sizedPeriod, DayMeets, closingRow, sumsHeld, chargeBy, closedPeriod, ClosingMeets}
+use Rattle.period.specs.Calls.{freshPeriod, withAccrued, heldBy, statusOf, openingRow, openedPeriod, OpeningMeets, accountsBrought, dayRow, reportedBy, sizedPeriod, DayMeets, closingRow, sumsHeld, chargeBy, closedPeriod, ClosingMeets}
 use Rattle.period.proofs.Replies.{opening-passed}
 use Rattle.period.proofs.ByFields.{by-fields}
 use Rattle.period.proofs.Sizing.{passes-all}
@@ -162,17 +162,23 @@ module _ (g : Register) (q : Good g) (d : DayInput) where
   more-sums =
       map-eq _ _ (range 0 32) (λ i m. rw (table-at (sumAt (g .held) (g .days)) 0 32 i 0 (omega (arith, mem-range 0 32 m .1)), zero-add i) (added (ltb i (g .held .n)) _ _))
 
-  max-other : (a b : ℕ) → max a b ≡ max b a
-  max-other a b = omega arith
+  -- what it reports: M of the days before, or its own
+  reported-is : reportedBy (periodOf g) d ≡ reportedMaxEul (g .held) (kept ∷ g .days)
+  unfolding periodOf highest reportedMaxEul greatest
+  reported-is = ap (λ (o : Opening). max (highest (g .held) (g .days)) (ownMaxEul o accts)) (held-is g q) ∙ omega arith
+
+  -- which M is then
+  M-is : reportedMaxEul (g .held) (kept ∷ g .days) ≡ highest (g .held) (kept ∷ g .days)
+  unfolding highest reportedMaxEul
+  M-is = refl
 
   sized-is : (room : ℕ) → sizedPeriod (periodOf g) d ≡ periodOf (accept g (Call.day d room))
-  unfolding periodOf accept highest greatest
+  unfolding periodOf accept
   sized-is room =
-      let same = held-is g q in
       ap (withAccrued (periodOf g))
       (by-fields refl (add-one (length (g .days)))
-      (ap (λ (o : Opening). max (highest (g .held) (g .days)) (ownMaxEul o accts)) same ∙ max-other (highest (g .held) (g .days)) (ownMaxEul (g .held) accts))
-      (ap (λ (o : Opening). map (λ i. getD (map (sumAt (g .held) (g .days)) (range 0 32)) i 0 + shareOf o i) (range 0 32)) same ∙ more-sums))
+      (reported-is ∙ M-is)
+      (ap (λ (o : Opening). map (λ i. getD (map (sumAt (g .held) (g .days)) (range 0 32)) i 0 + shareOf o i) (range 0 32)) (held-is g q) ∙ more-sums))
 
   sized-good : (room : ℕ) → 0 < total (heldBy (periodOf g)) (accountsBrought (periodOf g) d) → Good (accept g (Call.day d room))
   unfolding accept periodOf
@@ -183,13 +189,17 @@ module _ (g : Register) (q : Good g) (d : DayInput) where
         counted = (rw (held-is g q) at t, q .counted);
       }
 
-  day-says : (room : ℕ) → total (heldBy (periodOf g)) (accountsBrought (periodOf g) d) ∷ ownMaxEul (heldBy (periodOf g)) (accountsBrought (periodOf g) d) ∷ [] ≡ returned (accept g (Call.day d room)) (Call.day d room)
+  day-says : (room : ℕ) → total (heldBy (periodOf g)) (accountsBrought (periodOf g) d) ∷ reportedBy (periodOf g) d ∷ [] ≡ returned (accept g (Call.day d room)) (Call.day d room)
   unfolding periodOf accept returned
-  day-says room = rw (held-is g q)
+  day-says room = rw (reported-is, held-is g q)
 
-  day-writes : (room : ℕ) → dailies (heldBy (periodOf g)) (accountsBrought (periodOf g) d) ≡ written (accept g (Call.day d room)) (Call.day d room)
+  as-written : (room : ℕ) → dailies (heldBy (periodOf g)) (reportedBy (periodOf g) d) (accountsBrought (periodOf g) d) ≡ written (accept g (Call.day d room)) (Call.day d room)
   unfolding periodOf accept written
-  day-writes room = rw (held-is g q)
+  as-written room = rw (reported-is, held-is g q)
+
+pub day-writes : {g : Register} {p : Period} → Follows g p → (d : DayInput) (room : ℕ)
+    → dailies (heldBy p) (reportedBy p d) (accountsBrought p d) ≡ written (accept g (Call.day d room)) (Call.day d room)
+day-writes {g} f d room = ap (λ (p : Period). dailies (heldBy p) (reportedBy p d) (accountsBrought p d)) (f .is) ∙ as-written g (f .good) d room
 
 pub day-follows : {g : Register} {p : Period} {d : DayInput} {before : List ℕ} {r : Reply} {after : List ℕ} → Follows g p → DayMeets p d before r after
     → Follows (step g (Call.day d (length before))) (r .period)
@@ -202,9 +212,9 @@ day-follows {g} {p} {d} {before} f m =
       leads g c (dayRow p d room) same f (m .period) (by-day (f .reached) m)
           (λ e. (ap (λ (p : Period). sizedPeriod p d) (f .is) ∙ sized-is g (f .good) d room, sized-good g (f .good) d room (positive e))),
       tells g c (dayRow p d room) same _ (m .answer)
-          (λ e. ap (λ (p : Period). total (heldBy p) (accountsBrought p d) ∷ ownMaxEul (heldBy p) (accountsBrought p d) ∷ []) (f .is) ∙ day-says g (f .good) d room),
+          (λ e. ap (λ (p : Period). total (heldBy p) (accountsBrought p d) ∷ reportedBy p d ∷ []) (f .is) ∙ day-says g (f .good) d room),
       fills g c (dayRow p d room) same _ before (m .buffer)
-          (λ e. ap (λ (p : Period). dailies (heldBy p) (accountsBrought p d)) (f .is) ∙ day-writes g (f .good) d room),
+          (λ e. day-writes f d room),
     )
 
 -- ---- closing

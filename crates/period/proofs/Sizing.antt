@@ -2,7 +2,7 @@
 use mathlib.Core.Path.{_≡_, refl, sym, ap, _∙_}
 use mathlib.Core.Bool.{Bool, true, false, not, cond}
 use mathlib.Core.List.{List, flatMap}
-use Prim.Native.Nat.{ℕ, _+_, _*_, _≤_, _<_}
+use Prim.Native.Nat.{ℕ, _+_, _*_, _≤_, _<_, max}
 use native.Mathlib.Nat.{add-comm}
 use native.Mathlib.Omega.{arith}
 use lib.Dec.{ltb, eqb}
@@ -16,7 +16,7 @@ use Rattle.methodology.specs.declared.DayTerms.{DayTerms}
 use Rattle.methodology.specs.declared.Refusal.the-variants.{Clear}
 use Rattle.methodology.specs.Account.{DayInput, Account}
 use Rattle.methodology.specs.Member.{loss}
-use Rattle.methodology.specs.Day.{total, ownMaxEul, scale, share, five, dailies}
+use Rattle.methodology.specs.Day.{total, scale, share, five, dailies}
 use Rattle.methodology.specs.Refusals.{isOpen, badOutput, badAmount, beforeFigures}
 use Rattle.methodology.proofs.Passed.{passed, passed-rows}
 use Rattle.methodology.proofs.RowLimits.{accounts-long}
@@ -38,7 +38,7 @@ use Rattle.exposure.proofs.Found as found
 use Rattle.fund.specs.Shares.{shareIn}
 use Rattle.fund.proofs.Dailies.{Few, are-dailies, dailies-few, share-written}
 use Rattle.period.specs.declared.Period.{Period}
-use Rattle.period.specs.Calls.{heldBy, statusOf, accountsBrought, dayRow, shareAt, withAccrued, sizedPeriod}
+use Rattle.period.specs.Calls.{heldBy, statusOf, accountsBrought, dayRow, shareAt, reportedBy, withAccrued, sizedPeriod}
 use Rattle.period.specs.Inner.{earlyRow, withDay}
 use Rattle.period.proofs.InRange.{Ranged, ranged, open-in-range}
 use Rattle.period.proofs.ByFields.{by-fields}
@@ -94,12 +94,15 @@ module _ {p : Period} {d : DayInput} {room : ℕ} (s : Admits p d room) where
   total-few =
       omega (arith, total-small (accountsBrought p d) good-amount (omega (arith, accounts-long (p .held .k) d, sized (heldBy p) d (s .rows .input) .few)) (heldBy p))
 
-  -- nor is a number that it writes too large
-  pub written-few : 0 < total (heldBy p) (accountsBrought p d) → Every Few (dailies (heldBy p) (accountsBrought p d))
+  -- nor is what it reports, though that may be above its T, or a number that it writes
+  pub reported-few : reportedBy p d ≤ greatestTotal
+  reported-few = omega (arith, s .in-range .bounded, max-le-total (heldBy p) (accountsBrought p d), total-few)
+
+  pub written-few : 0 < total (heldBy p) (accountsBrought p d) → Every Few (dailies (heldBy p) (reportedBy p d) (accountsBrought p d))
   written-few positive =
-      dailies-few (heldBy p) (accountsBrought p d)
+      dailies-few (heldBy p) (reportedBy p d) (accountsBrought p d)
       (λ m i. record { positive = positive; part = loss-le-total (heldBy p) (accountsBrought p d) i; bounded = total-few })
-      (omega (arith, max-le-total (heldBy p) (accountsBrought p d), total-few))
+      reported-few
 
 -- a share of the whole is at most 10^12
 module _ (p : Period) (d : DayInput) (positive : 0 < total (heldBy p) (accountsBrought p d)) where
@@ -116,23 +119,23 @@ module _ (p : Period) (d : DayInput) (positive : 0 < total (heldBy p) (accountsB
 -- the shares of a day, in what it wrote
 module _ (p : Period) (d : DayInput) where
   written-at : (i : ℕ) (t : Bool) → ltb i (p .held .n) ≡ t
-      → cond t (shareIn (dailies (heldBy p) (accountsBrought p d)) i) 0
+      → cond t (shareIn (dailies (heldBy p) (reportedBy p d) (accountsBrought p d)) i) 0
       ≡ cond t (share (loss (p .held .k) (accountsBrought p d) (i + 1)) (total (heldBy p) (accountsBrought p d))) 0
   written-at i true q =
-      share-written (heldBy p) (accountsBrought p d) i (ltb-true i (p .held .n) q)
+      share-written (heldBy p) (reportedBy p d) (accountsBrought p d) i (ltb-true i (p .held .n) q)
       ∙ ap (λ (m : ℕ). share (loss (p .held .k) (accountsBrought p d) m) (total (heldBy p) (accountsBrought p d))) (add-comm 1 i)
   written-at i false q = refl
 
-  share-at : (i : ℕ) → cond (ltb i (p .held .n)) (shareIn (dailies (heldBy p) (accountsBrought p d)) i) 0 ≡ shareAt p d i
+  share-at : (i : ℕ) → cond (ltb i (p .held .n)) (shareIn (dailies (heldBy p) (reportedBy p d) (accountsBrought p d)) i) 0 ≡ shareAt p d i
   share-at i = written-at i (ltb i (p .held .n)) refl
 
-  pub shares-few : 0 < total (heldBy p) (accountsBrought p d) → (i : ℕ) → i < p .held .n → shareIn (dailies (heldBy p) (accountsBrought p d)) i ≤ scale
+  pub shares-few : 0 < total (heldBy p) (accountsBrought p d) → (i : ℕ) → i < p .held .n → shareIn (dailies (heldBy p) (reportedBy p d) (accountsBrought p d)) i ≤ scale
   shares-few positive i h = rw (sym (share-at i), lt-ltb i (p .held .n) h) at (share-few p d positive i)
 
   -- so the period that takes them in is the one that the accounts give
-  pub taken-in : (top : ℕ) → top ≡ ownMaxEul (heldBy p) (accountsBrought p d) → (out : List ℕ) → out ≡ dailies (heldBy p) (accountsBrought p d)
-      → withDay p (d .terms) top out ≡ sizedPeriod p d
-  taken-in top e out w =
+  pub taken-in : (reported : ℕ) → reported ≡ reportedBy p d → (out : List ℕ) → out ≡ dailies (heldBy p) (reportedBy p d) (accountsBrought p d)
+      → withDay p (d .terms) reported out ≡ sizedPeriod p d
+  taken-in reported e out w =
       rw (e, w) (ap (withAccrued p) (by-fields refl refl refl (map-eq _ _ (range 0 32) (λ i m. ap (λ (x : ℕ). getD (p .accrued .sums) i 0 + x) (share-at i)))))
 
 -- what the figures ask of a day in slices
@@ -162,11 +165,13 @@ module _ {p : Period} {terms : DayTerms} {members numbers kinds : List ℕ} {npv
     pub total-is : r .losses .total ≡ total (heldBy p) accts
     total-is = found.total-is (heldBy p) accts slices own (r .losses) (are .losses)
 
-    pub top-is : r .top ≡ ownMaxEul (heldBy p) accts
-    top-is = are .top .is accts slices own
+    -- so the greater of M and it is what the day reports
+    module _ (reported : ℕ) (greater : reported ≡ max (p .accrued .highest) (r .top)) where
+      pub reported-is : reported ≡ reportedBy p day
+      reported-is = greater ∙ ap (max (p .accrued .highest)) (are .top .is accts slices own)
 
-    pub top-few : r .top ≤ greatestTotal
-    top-few = omega (arith, found.top-part (heldBy p) accts slices own (r .losses) (are .losses) (r .top) top-is, total-is, total-few s)
+      pub written : flatMap (λ e. five e reported (r .losses .total)) (take (p .held .n) (r .losses .each)) ≡ dailies (heldBy p) (reportedBy p day) accts
+      written = rw (reported-is, total-is) (are-dailies (heldBy p) (reportedBy p day) accts (r .losses .each) (are .losses .each accts slices own))
 
     pub part : ¬ (r .losses .total ≡ 0) → (i : ℕ) → i < p .held .n → Loss (getD (r .losses .each) i 0) (r .losses .total)
     part h i l =
@@ -175,6 +180,3 @@ module _ {p : Period} {terms : DayTerms} {members numbers kinds : List ℕ} {npv
           part = found.loss-part (heldBy p) accts slices own (r .losses) (are .losses) i l;
           bounded = omega (arith, total-is, total-few s);
         }
-
-    pub written : flatMap (λ e. five e (r .top) (r .losses .total)) (take (p .held .n) (r .losses .each)) ≡ dailies (heldBy p) accts
-    written = rw (top-is, total-is) (are-dailies (heldBy p) accts (r .losses .each) (are .losses .each accts slices own))

@@ -87,27 +87,31 @@ shareAt p d i =
     let accts = accountsBrought p d in
     cond (ltb i (p .held .n)) (share (loss (p .held .k) accts (i + 1)) (total (heldBy p) accts)) 0
 
--- what a period's days come to with one more: the last accepted day number, D, M and the sums take it in
-abbrev pub takenIn : Accrued → DayTerms → (top : ℕ) → (share : (i : ℕ) → ℕ) → Accrued
-takenIn a terms top share =
+-- The Max EUL that an accepted day reports: M of the days before it, or its own where that is greater (document 02, Change 3).
+abbrev pub reportedBy : Period → DayInput → ℕ
+reportedBy p d = max (p .accrued .highest) (ownMaxEul (heldBy p) (accountsBrought p d))
+
+-- what a period's days come to with one more: the last accepted day number, D and the sums take it in, and M is what it reports
+abbrev pub takenIn : Accrued → DayTerms → (reported : ℕ) → (share : (i : ℕ) → ℕ) → Accrued
+takenIn a terms reported share =
     record {
       last = terms .number;
       days = a .days + 1;
-      highest = max (a .highest) top;
+      highest = reported;
       sums = plusEach (a .sums) share;
     }
 
 -- the period after it
 abbrev pub sizedPeriod : Period → DayInput → Period
-sizedPeriod p d = withAccrued p (takenIn (p .accrued) (d .terms) (ownMaxEul (heldBy p) (accountsBrought p d)) (shareAt p d))
+sizedPeriod p d = withAccrued p (takenIn (p .accrued) (d .terms) (reportedBy p d) (shareAt p d))
 
 -- A day "returns T and Max EUL" and writes "5 numbers a member". A refused one leaves the period and the buffer as before.
 pub record DayMeets (p : Period) (d : DayInput) (before : List ℕ) (r : Reply) (after : List ℕ) : Type 0 where
   pub answer :
       answerOf (r .outcome)
-      ≡ answerBy (dayRow p d (length before)) (total (heldBy p) (accountsBrought p d) ∷ ownMaxEul (heldBy p) (accountsBrought p d) ∷ [])
+      ≡ answerBy (dayRow p d (length before)) (total (heldBy p) (accountsBrought p d) ∷ reportedBy p d ∷ [])
   pub period : r .period ≡ ifAccepted (dayRow p d (length before)) (sizedPeriod p d) p
-  pub buffer : after ≡ ifAccepted (dayRow p d (length before)) (dailies (heldBy p) (accountsBrought p d)) before
+  pub buffer : after ≡ ifAccepted (dayRow p d (length before)) (dailies (heldBy p) (reportedBy p d) (accountsBrought p d)) before
 
 -- ---- closing
 

@@ -38,7 +38,7 @@ abbrev pub cutDay : DayTerms → (n : ℕ) → (columns : List ℕ) → (npvs : 
 cutDay terms n columns npvs margins extras =
     plainDay terms (take n columns) (take n (drop 256 columns)) (take n (drop 512 columns)) npvs margins extras
 
--- The period after a day, from what the code has found and written: the day's Max EUL, and the shares in its buffer. That this is
--- `sizedPeriod`, which speaks of the day's accounts alone, is shown where they are found.
-abbrev pub withDay : Period → DayTerms → (top : ℕ) → (out : List ℕ) → Period
-withDay p terms top out = withAccrued p (takenIn (p .accrued) terms top (λ i. cond (ltb i (p .held .n)) (shareIn out i) 0))
+-- The period after a day, from what the code has found and written: the Max EUL that it reports, and the shares in its buffer. That this is
+-- `sizedPeriod`, which speaks of the day's accounts, is shown where they are found.
+abbrev pub withDay : Period → DayTerms → (reported : ℕ) → (out : List ℕ) → Period
+withDay p terms reported out = withAccrued p (takenIn (p .accrued) terms reported (λ i. cond (ltb i (p .held .n)) (shareIn out i) 0))

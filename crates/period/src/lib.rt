@@ -41,7 +41,7 @@ pub struct Accrued {
     sums: [u64; 32],
 }
 
-// What a call says: acceptance, with a day's T and Max EUL or a closing's D, M and total funded, or one numbered refusal, with its index in
+// What a call says: acceptance, with a day's T and the Max EUL that it reports or a closing's D, M and total funded, or one numbered refusal, with its index in
 // rows 5 and 6. `answerOf` in specs/Reading.antt gives document 01's number and values for each case.
 pub enum Outcome {
     Opened,
@@ -237,22 +237,22 @@ impl Period {
         )
     }
 
-    // The period with an accepted day taken in: its number, its Max EUL, and the shares that stand in what it wrote.
-    fn with_day(mut self, terms: DayTerms, top: u64, out: &[u64]) -> Period
+    // The period with an accepted day taken in: its number, the Max EUL that it reports, which M is then, and the shares that stand in what
+    // it wrote.
+    fn with_day(mut self, terms: DayTerms, reported: u64, out: &[u64]) -> Period
         requires { ⌜ (self .held .n ≤ 32) × (self .accrued .days ≤ 31) × (length (now out) ≡ 5 * self .held .n) ⌝ }
         requires { ⌜ ((i : ℕ) → i < self .held .n → shareIn (now out) i ≤ scale) ⌝ }
         requires { ⌜ ((i : ℕ) → getD (self .accrued .sums) i 0 ≤ 31 * scale) ⌝ }
-        ensures { λ r. ⌜ r ≡ withDay self terms top (now (out .entry)) ⌝ }
+        ensures { λ r. ⌜ r ≡ withDay self terms reported (now (out .entry)) ⌝ }
     {
         let n = self.held.n as usize;
         let old = self.accrued;
         let before = old.sums;
         let sums = fund::with_shares(before, n, out);
-        let highest = numbers::greater(old.highest, top);
         let accrued = Accrued {
             last: terms.number,
             days: old.days + 1,
-            highest,
+            highest: reported,
             sums,
         };
         Period { accrued, ..self }
@@ -293,13 +293,13 @@ impl Period {
         if total == 0 {
             return self.refused(Refusal::Row(7));
         }
-        let top = figures.top;
+        let reported = numbers::greater(self.accrued.highest, figures.top); // the highest so far
         let each = losses.each;
-        fund::write_dailies(each, held.n as usize, top, total, out);
-        let period = self.with_day(terms, top, out);
+        fund::write_dailies(each, held.n as usize, reported, total, out);
+        let period = self.with_day(terms, reported, out);
         Reply {
             period,
-            outcome: Outcome::Sized(total, top),
+            outcome: Outcome::Sized(total, reported),
         }
     }
 

@@ -10,10 +10,10 @@ use Rattle.methodology.specs.Account.{DayInput}
 use Rattle.methodology.specs.Day.{total, dailies}
 use Rattle.validation.specs.Slices.{plainDay, Even}
 use Rattle.fund.proofs.Dailies.{dailies-long}
-use Rattle.period.specs.Calls.{heldBy, accountsBrought}
+use Rattle.period.specs.Calls.{heldBy, accountsBrought, reportedBy}
 use Rattle.period.specs.Inner.{earlyRow}
 use Rattle.period.proofs.Replies.{none-met, day-refused, day-refused-7, day-clear, day-accepted}
-use Rattle.period.proofs.Sizing.{Admits, admits, members-few, grouped, sums-fit, shares-few, taken-in, sizable, total-is, top-is, top-few, part, written}
+use Rattle.period.proofs.Sizing.{Admits, admits, members-few, grouped, sums-fit, reported-few, shares-few, taken-in, sizable, total-is, reported-is, part, written}
 use Rattle.period.proofs.Period.plain_day.Statement.{statement}
 use Rattle.period.proofs.Period.plain_day.Tie as tie
 
@@ -34,19 +34,29 @@ even : (c : tie.Else1) → let a = at-start (c .before) .args in Even (a .member
 even c = at-start (c .before) .pre
 
 -- what the figures leave: the losses' total is above 0, and the buffer holds the day's five numbers a member
+abbrev after-greater : tie.After-write-dailies → tie.After-greater
+after-greater w = w .before .before .before
+
+abbrev after-figures : tie.After-greater → tie.After-day-figures
+after-figures g = g .before .before .before
+
 abbrev open-at : tie.After-write-dailies → tie.Else1
-open-at w = w .before .before .before .before .before .before .before
+open-at w = after-figures (after-greater w) .before .before
 
 positive : (w : tie.After-write-dailies) → let s = at-start (open-at w .before) in 0 < total (heldBy (s .args .self)) (accountsBrought (s .args .self) (day s))
 positive w =
     let e = open-at w in
-    let is = total-is (even e) (admitted e) _ (w .before .before .before .before .before .day-figures .ensures) in
-    omega (arith, w .before .before .before .if2 .left)
+    let is = total-is (even e) (admitted e) _ (after-figures (after-greater w) .day-figures .ensures) in
+    omega (arith, after-greater w .before .if2 .left)
 
-left-by : (w : tie.After-write-dailies) → let s = at-start (open-at w .before) in w .write-dailies .last .1 .1 .1 .1 .0 ≡ dailies (heldBy (s .args .self)) (accountsBrought (s .args .self) (day s))
+left-by : (w : tie.After-write-dailies)
+    → let s = at-start (open-at w .before) in
+    let p = s .args .self in
+    w .write-dailies .last .1 .1 .1 .1 .0 ≡ dailies (heldBy p) (reportedBy p (day s)) (accountsBrought p (day s))
 left-by w =
     let e = open-at w in
-    w .write-dailies .ensures ∙ written (even e) (admitted e) _ (w .before .before .before .before .before .day-figures .ensures)
+    let g = after-greater w in
+    w .write-dailies .ensures ∙ written (even e) (admitted e) _ (after-figures g .day-figures .ensures) _ (g .greater .ensures)
 
 day-row-requires : tie.Need-day-row-requires
 day-row-requires c κs = search needs
@@ -70,6 +80,9 @@ day-figures-requires c κs =
 refused-requires-2 : tie.Need-refused-requires-2
 refused-requires-2 c κs = search needs
 
+greater-requires : tie.Need-greater-requires
+greater-requires c κs = search needs
+
 returns-2 : tie.Need-returns-2
 returns-2 c =
     let f = c .before .before .before in
@@ -78,10 +91,12 @@ returns-2 c =
 
 write-dailies-requires : tie.Need-write-dailies-requires
 write-dailies-requires c κs =
-    let f = c .before .before .before .before in
+    let g = c .before .before in
+    let f = after-figures g in
     let e = f .before .before in
     let a = admitted e in
-    ((members-few a, a .room-long), (part (even e) a _ (f .day-figures .ensures) (c .before .before .if2 .left), top-few (even e) a _ (f .day-figures .ensures)))
+    let reported = reported-is (even e) a _ (f .day-figures .ensures) _ (g .greater .ensures) in
+    ((members-few a, a .room-long), (part (even e) a _ (f .day-figures .ensures) (g .before .if2 .left), rw reported (reported-few a)))
 
 with-day-requires : tie.Need-with-day-requires
 with-day-requires c κs =
@@ -90,7 +105,7 @@ with-day-requires c κs =
     let a = admitted e in
     let r = a .in-range in
     let after = left-by w in (
-      (members-few a, omega (arith, r .counted, r .month), ap length after ∙ dailies-long (heldBy (at-start (e .before) .args .self)) _),
+      (members-few a, omega (arith, r .counted, r .month), ap length after ∙ dailies-long (heldBy (at-start (e .before) .args .self)) _ _),
       ((λ i h. rw after (shares-few (at-start (e .before) .args .self) (day (at-start (e .before))) (positive w) i h)), sums-fit a),
     )
 
@@ -101,15 +116,16 @@ returns-3 : tie.Need-returns-3
 returns-3 c =
     let w = c .before .before .before .before in
     let e = open-at w in
-    let f = w .before .before .before .before .before in
+    let g = after-greater w in
+    let f = after-figures g in
     let a = admitted e in
     let total = total-is (even e) a _ (f .day-figures .ensures) in
-    let top = top-is (even e) a _ (f .day-figures .ensures) in
+    let reported = reported-is (even e) a _ (f .day-figures .ensures) _ (g .greater .ensures) in
     let s = at-start (e .before) in
     let p = s .args .self in
     let out = s .args .out .now in
-    let none = day-clear p (day s) out (clear e) (λ z. w .before .before .before .if2 .left (total ∙ z)) in
-    rw (c .with-day .ensures) (day-accepted p (day s) out none _ _ _ total top (left-by w) (taken-in p (day s) _ top _ (left-by w)))
+    let none = day-clear p (day s) out (clear e) (λ z. g .before .if2 .left (total ∙ z)) in
+    rw (c .with-day .ensures) (day-accepted p (day s) out none _ _ _ total reported (left-by w) (taken-in p (day s) _ reported _ (left-by w)))
 
 pub plain-day-spec : {M : Type 1} → statement M
 plain-day-spec =
@@ -122,6 +138,7 @@ plain-day-spec =
     day-figures-requires
     refused-requires-2
     returns-2
+    greater-requires
     write-dailies-requires
     with-day-requires
     same-length
