@@ -81,10 +81,10 @@ pub fund-other : (n : ℕ) (figures out : List ℕ) → Every Other (fundRead n 
 unfolding bytes same
 fund-other n figures out = (refl, every-map Other _ (members n) (λ m i. refl))
 
--- its D stands first
-pub fund-counts : {D : ℕ} (n : ℕ) (figures out : List ℕ) → take 1 figures ≡ D ∷ [] → Every (Counts D) (fundRead n figures out)
+-- its D and its M stand first
+pub fund-counts : {D M : ℕ} (n : ℕ) (figures out : List ℕ) → take 2 figures ≡ D ∷ M ∷ [] → Every (Counts D M) (fundRead n figures out)
 unfolding bytes same
-fund-counts {D} n figures out is = ((λ e. is), every-map (Counts D) _ (members n) (λ m i e. absurd (true≢false (sym e))))
+fund-counts {D} {M} n figures out is = ((λ e. is), every-map (Counts D M) _ (members n) (λ m i e. absurd (true≢false (sym e))))
 
 -- no line of it tells of a refusal
 pub fund-told : (n : ℕ) (figures out : List ℕ) → Every Told (fundRead n figures out)
@@ -99,7 +99,7 @@ pub refused-other : (number line : ℕ) → Every Other (worded (bytes "refused"
 unfolding bytes same
 refused-other number line = (refl, tt)
 
-pub refused-counts : {D : ℕ} (number line : ℕ) → Every (Counts D) (worded (bytes "refused") (number ∷ line ∷ []) ∷ [])
+pub refused-counts : {D M : ℕ} (number line : ℕ) → Every (Counts D M) (worded (bytes "refused") (number ∷ line ∷ []) ∷ [])
 unfolding bytes same
 refused-counts number line = ((λ e. absurd (true≢false (sym e))), tt)
 

@@ -1,5 +1,5 @@
 -- Document 02, Change 1, of the report as a person reads it off its bytes: "Each sum equals that of the day's records as printed, and the
--- first equals T." `AsPrinted` is the claim.
+-- first equals T." `AsPrinted` is the claim. By Change 3 it says of the days' Max EULs too what is read off.
 use mathlib.Core.Path.{_≡_}
 use mathlib.Core.Bool.{true, false, not, _&&_, _||_}
 use mathlib.Core.List.{List, [], _∷_, _++_, map, flatMap}
@@ -13,7 +13,7 @@ use Rattle.methodology.specs.declared.Refusal.the-variants.{Clear}
 use Rattle.methodology.specs.declared.Opening.{Opening}
 use Rattle.methodology.specs.Account.{DayInput, Account, members}
 use Rattle.methodology.specs.Member.{loss}
-use Rattle.methodology.specs.Day.{total, ownMaxEul, share, value, reserve, estimate, five, dailies}
+use Rattle.methodology.specs.Day.{total, share, value, reserve, estimate, five, dailies}
 use Rattle.methodology.specs.Register.{Call, Register, start, refusal, step, returned, written}
 use Rattle.methodology.specs.Text.{LF, bytes, same, split, fields, isDigit, valueFrom, numberOf, decimal, stretch, totals, dayLines, reportOf}
 use Rattle.demand3.specs.Demand3.{Fits64}
@@ -76,19 +76,30 @@ membersIn text = getD (lineOf (getD (split LF text) 0 []) .numbers) 0 0
 abbrev pub Other : Line → Type 0
 Other l = (same (l .word) (bytes "day") || same (l .word) (bytes "daily") || same (l .word) (bytes "total")) ≡ false
 
--- a fund line whose first number is this D, or no fund line
-abbrev pub Counts : (D : ℕ) → Line → Type 0
-Counts D l = same (l .word) (bytes "fund") ≡ true → take 1 (l .numbers) ≡ D ∷ []
+-- a fund line whose first numbers are this D and this M, or no fund line
+abbrev pub Counts : (D M : ℕ) → Line → Type 0
+Counts D M l = same (l .word) (bytes "fund") ≡ true → take 2 (l .numbers) ≡ D ∷ M ∷ []
 
--- A report of n members, or what is left of it after `before` accepted days, is its accepted days, each of which adds up, and after them
--- other lines. Where there is a fund its D is the number of the days, so that none is left out.
-pub record DaysAddUp (n before : ℕ) (report : List ℕ) : Type 0 where
+-- Change 3: no day's Max EUL is below the one of the day before it, of which the first is `top`; and the last day's, or `top` without days
+abbrev pub NeverFall : (top : ℕ) → List DayRead → Type 0
+NeverFall top [] = Unit {0}
+NeverFall top (d ∷ ds) = (top ≤ d .Max) × NeverFall (d .Max) ds
+
+abbrev pub lastMax : (top : ℕ) → List DayRead → ℕ
+lastMax top [] = top
+lastMax top (d ∷ ds) = lastMax (d .Max) ds
+
+-- A report of n members, or what is left of it after `before` accepted days, the last of which reported `top`, is its accepted days, each of
+-- which adds up, and after them other lines. Where there is a fund its D is the number of the days, so that none is left out, and its M is
+-- the Max EUL of the last, 0 without days.
+pub record DaysAddUp (n before top : ℕ) (report : List ℕ) : Type 0 where
   pub days : List DayRead
   pub rest : List Line
   pub whole : linesOf report ≡ flatMap linesOfDay days ++ rest
   pub add-up : Every (AddsUp n) days
+  pub never-fall : NeverFall top days
   pub no-day : Every Other rest
-  pub all-there : Every (Counts (before + length days)) rest
+  pub all-there : Every (Counts (before + length days) (lastMax top days)) rest
 
 -- ---- what was summed is what is read
 
@@ -120,11 +131,10 @@ pub record ReadAsSummed (g : Register) (d : DayInput) (call : Call) : Type 0 whe
 
 -- ---- Change 1
 
--- "the sums of e, share, value, reserve and estimate over that day's members", from its accounts
-abbrev pub sumsOfFive : Opening → List Account → List ℕ
-sumsOfFive o accts =
+-- "the sums of e, share, value, reserve and estimate over that day's members", from its accounts and the Max EUL that it reports
+abbrev pub sumsOfFive : Opening → (Max : ℕ) → List Account → List ℕ
+sumsOfFive o Max accts =
     let e = loss (o .k) accts in
-    let Max = ownMaxEul o accts in
     let T = total o accts in
     Σ (members (o .n)) e
     ∷ Σ (members (o .n)) (λ m. share (e m) T)
@@ -135,11 +145,11 @@ sumsOfFive o accts =
 
 pub record AsPrinted : Type 0 where
   -- a member's record is its five numbers, and the sums of the columns are those of the five
-  pub record-is : (o : Opening) (accts : List Account) (m : ℕ) → 1 ≤ m → m ≤ o .n
-      → stretch 5 m (dailies o accts) ≡ five (loss (o .k) accts m) (ownMaxEul o accts) (total o accts)
-  pub sums-of-five : (o : Opening) (accts : List Account) → totals (o .n) (dailies o accts) ≡ sumsOfFive o accts
+  pub record-is : (o : Opening) (Max : ℕ) (accts : List Account) (m : ℕ) → 1 ≤ m → m ≤ o .n
+      → stretch 5 m (dailies o Max accts) ≡ five (loss (o .k) accts m) Max (total o accts)
+  pub sums-of-five : (o : Opening) (Max : ℕ) (accts : List Account) → totals (o .n) (dailies o Max accts) ≡ sumsOfFive o Max accts
   -- "and the first equals T"
-  pub first-sum-is-T : (o : Opening) (accts : List Account) → getD (totals (o .n) (dailies o accts)) 0 0 ≡ total o accts
+  pub first-sum-is-T : (o : Opening) (Max : ℕ) (accts : List Account) → getD (totals (o .n) (dailies o Max accts)) 0 0 ≡ total o accts
   -- A number below 10^20 is printed in digits alone, with no leading zero, which have its value; where there are at most 13 they are that
   -- number to the reader of a text.
   pub digits-alone : (x : ℕ) → any (λ b. not (isDigit b)) (decimal x) ≡ false
@@ -157,4 +167,4 @@ pub record AsPrinted : Type 0 where
   -- every line of every report
   pub all-decimal : (text : List ℕ) → Every InDecimal (split LF (reportOf text))
   -- "Each sum equals that of the day's records as printed, and the first equals T."
-  pub days-add-up : (text : List ℕ) → DaysAddUp (membersIn text) 0 (reportOf text)
+  pub days-add-up : (text : List ℕ) → DaysAddUp (membersIn text) 0 0 (reportOf text)

@@ -80,3 +80,15 @@ pub last-closing : {g : Register} {p : Period} → Follows g p → (cs : List Ma
     → Covers (registerAfter g (cs ++ (c ∷ []))) (answerOf (c .reply .outcome)) (c .after)
 last-closing f [] c out is (m, _) e = one f c m .2 out is e
 last-closing f (b ∷ cs) c out is (m, ms) e = last-closing (one f b m .0) cs c out is ms e
+
+-- demand 3 of the calls after the first ones, so that the last of a list agrees with the register that the others have left
+pub holds-from : (g : Register) (cs ds : List Made) → Holds g (cs ++ ds) → Holds (registerAfter g cs) ds
+holds-from g [] ds h = h
+holds-from g (b ∷ cs) ds (_, _, h) = holds-from (step g (callOf (b .asked))) cs ds h
+
+pub last-agrees : (g : Register) (cs : List Made) (c : Made) → Holds g (cs ++ (c ∷ [])) → Agrees (registerAfter g cs) c
+last-agrees g cs c h = holds-from g cs (c ∷ []) h .0
+
+pub after-one : (g : Register) (cs : List Made) (a : Made) → registerAfter g (cs ++ (a ∷ [])) ≡ step (registerAfter g cs) (callOf (a .asked))
+after-one g [] a = refl
+after-one g (b ∷ cs) a = after-one (step g (callOf (b .asked))) cs a

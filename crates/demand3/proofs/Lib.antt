@@ -1,5 +1,5 @@
 mod Covering
-mod EveryList
+pub mod EveryList
 mod Fitting
 pub mod RegisterFits
 pub mod Facts

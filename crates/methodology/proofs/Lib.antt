@@ -3,6 +3,7 @@ pub mod Figures
 pub mod WorkedCalls
 pub mod Passed
 pub mod RowLimits
+pub mod SoFar
 pub mod WorkedTexts
 pub mod WorkedLimits
 pub mod Splits

@@ -2,11 +2,14 @@
 -- accepted or a test holds.
 use mathlib.Core.Path.{_≡_, refl}
 use mathlib.Core.Bool.{Bool, true, false, cond}
+use mathlib.Core.List.{[]}
 use Prim.Native.Nat.{ℕ, _≤_, _<_}
 use native.Mathlib.Omega.{arith}
 use lib.Dec.{ltb, leb}
 use borrow.Author.Tests.{ltb-false, leb-false}
 use Rattle.numbers.proofs.Tests.{neither}
+use Rattle.methodology.specs.declared.Status.the-variants.{Open}
+use Rattle.methodology.specs.declared.Opening.{Opening}
 use Rattle.methodology.specs.declared.Refusal.{Refusal}
 use Rattle.methodology.specs.declared.Refusal.the-variants.{Clear, Row, RowAt}
 use Rattle.methodology.specs.Refusals.{row_when_else_, row_at_when_else_, rows-of_else_, outside, badDayNumber}
@@ -32,6 +35,11 @@ passed-rows (RowAt number index) rest e = let z : _≡_ {A = ℕ} 0 1 = cc in ab
 pub step-clear : (g : Register) (c : Call) → refusal g c ≡ Clear → step g c ≡ accept g c
 unfolding step
 step-clear g c e = rw e
+
+-- an accepted opening is all that the register holds after it
+pub opened-anew : (g : Register) (o : Opening) → refusal g (Call.opening o) ≡ Clear → step g (Call.opening o) ≡ record { status = Open; held = o; days = [] }
+unfolding accept
+opened-anew g o e = step-clear g (Call.opening o) e
 
 -- what holds of both ways holds of the one that is taken
 pub either : {A : Type 0} (P : A → Type 0) (x : Refusal) (a b : A) → (x ≡ Clear → P a) → P b → P (ifAccepted x a b)

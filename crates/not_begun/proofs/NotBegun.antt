@@ -19,7 +19,7 @@ use Rattle.methodology.specs.Contribution.{charge, raw, funded, unfunded, three
 use Rattle.methodology.specs.Refusals.{badOpening}
 use Rattle.methodology.specs.Register.{Call, Register, start, refusal, accept, ifAccepted, step, returned, written, Answer, accepted, answerBy, answer, buffer}
 use Rattle.methodology.specs.Text.{bytes, printed, stretch, rows, refusedLine, fundLines, closed, reportOf}
-use Rattle.methodology.proofs.Passed.{step-clear}
+use Rattle.methodology.proofs.Passed.{step-clear, opened-anew}
 use Rattle.methodology.proofs.Splits.{nothing-after, something-after}
 use Rattle.methodology.proofs.Reports.{closing-clear}
 use Rattle.fund.proofs.RawCharge.{highest-none, raw-none, exact-none}
@@ -28,6 +28,7 @@ use Rattle.period.specs.Registered.{periodOf}
 use Rattle.period.specs.Calls.{freshPeriod}
 use Rattle.demand3.specs.Made.{Asked, Made, callOf, MadeOn}
 use Rattle.demand3.specs.Demand3.{Agrees, Holds, registerAfter}
+use Rattle.demand3.proofs.EveryList.{last-agrees, after-one}
 use Rattle.demand3.proofs.Demand3.{madeOf, demand-3}
 use Rattle.answers.proofs.RefusalRows.{is-clear}
 use Rattle.as_printed.proofs.DaySums.{stretch-is}
@@ -70,11 +71,6 @@ module _ (g : Register) (room : ℕ) (none : NoAcceptedDay g) (long : room ≡ 3
 
 -- ---- lists of calls
 
--- the last call of a list agrees with the register that the others have left
-last-agrees : (g : Register) (cs : List Made) (c : Made) → Holds g (cs ++ (c ∷ [])) → Agrees (registerAfter g cs) c
-last-agrees g [] c (agreed, _, _) = agreed
-last-agrees g (b ∷ cs) c (_, _, h) = last-agrees (step g (callOf (b .asked))) cs c h
-
 -- a list of calls of which demand 3 holds
 of-list : (cs : List Made) (c : Made) (out : List ℕ) → Holds start (cs ++ (c ∷ [])) → c .asked ≡ Asked.closing out
     → NoAcceptedDay (registerAfter start cs) → length out ≡ 3 * registerAfter start cs .held .n → ClosedAt (registerAfter start cs) c
@@ -87,22 +83,13 @@ of-list cs c out holds is none long =
       leaves = agreed .period ∙ rw is (ap periodOf leaves);
     }
 
-after-one : (g : Register) (cs : List Made) (a : Made) → registerAfter g (cs ++ (a ∷ [])) ≡ step (registerAfter g cs) (callOf (a .asked))
-after-one g [] a = refl
-after-one g (b ∷ cs) a = after-one (step g (callOf (b .asked))) cs a
-
--- an accepted opening leaves no day
-opened-none : (g : Register) (o : Opening) → refusal g (Call.opening o) ≡ Clear → step g (Call.opening o) ≡ record { status = Open; held = o; days = [] }
-unfolding accept
-opened-none g o e = step-clear g (Call.opening o) e
-
 at-once : (cs : List Made) (a c : Made) (o : Opening) (out : List ℕ) → MadeOn freshPeriod (cs ++ (a ∷ c ∷ []))
     → a .asked ≡ Asked.opening o → refusal (registerAfter start cs) (Call.opening o) ≡ Clear
     → c .asked ≡ Asked.closing out → length out ≡ 3 * o .n
     → AsNotBegun (o .n) (answerOf (c .reply .outcome)) (c .after)
 at-once cs a c o out made is e is′ long =
     let g = registerAfter start (cs ++ (a ∷ [])) in
-    let left : g ≡ record { status = Open; held = o; days = [] } = after-one start cs a ∙ rw is (opened-none (registerAfter start cs) o e) in
+    let left : g ≡ record { status = Open; held = o; days = [] } = after-one start cs a ∙ rw is (opened-anew (registerAfter start cs) o e) in
     let made′ = subst (MadeOn freshPeriod) (sym (append-assoc cs (a ∷ []) (c ∷ []))) made in
     let none : NoAcceptedDay g = record { opened = rw left refl; none = rw left refl } in
     let so = of-list (cs ++ (a ∷ [])) c out (demand-3 .every-list (cs ++ (a ∷ []) ++ (c ∷ [])) made′) is′ none (long ∙ rw left refl) .as-not-begun in
@@ -165,7 +152,7 @@ report : (o : Opening) → badOpening o ≡ false → reportOf (textOf o) ≡ fu
 unfolding closed returned written
 report o good =
     let g = step start (Call.opening o) in
-    let is : g ≡ record { status = Open; held = o; days = [] } = opened-none start o (clear o good) in
+    let is : g ≡ record { status = Open; held = o; days = [] } = opened-anew start o (clear o good) in
     let none : NoAcceptedDay g = record { opened = rw is refl; none = rw is refl } in
     let room = 3 * g .held .n in
     ap reportOf (sym (append-nil (textOf o)))

@@ -22,6 +22,7 @@ use Rattle.methodology.specs.Day.{total, ownMaxEul, share, dailies}
 use Rattle.methodology.specs.Contribution.{KeptDay, reportedMaxEul, highest, sumOfShares, funded, three}
 use Rattle.methodology.specs.Refusals.{isOpen, openingRefusal, beforeFigures, dayRefusal, closingRefusal}
 use Rattle.methodology.specs.Register.{Call, Register, start, lastNumber, refusal, accept, ifAccepted, step, returned, written, Answer, accepted, answerBy, answer, buffer}
+use Rattle.methodology.proofs.SoFar.{reported-is-M, reported-more}
 use Rattle.fund.proofs.Contributions.{are-contributions, is-total-funded}
 use Rattle.period.specs.declared.Period.{Period}
 use Rattle.period.specs.declared.Reply.{Reply}
@@ -162,22 +163,18 @@ module _ (g : Register) (q : Good g) (d : DayInput) where
   more-sums =
       map-eq _ _ (range 0 32) (λ i m. rw (table-at (sumAt (g .held) (g .days)) 0 32 i 0 (omega (arith, mem-range 0 32 m .1)), zero-add i) (added (ltb i (g .held .n)) _ _))
 
-  -- what it reports: M of the days before, or its own
+  -- what it reports: M of the days before, or its own where that is greater
   reported-is : reportedBy (periodOf g) d ≡ reportedMaxEul (g .held) (kept ∷ g .days)
-  unfolding periodOf highest reportedMaxEul greatest
-  reported-is = ap (λ (o : Opening). max (highest (g .held) (g .days)) (ownMaxEul o accts)) (held-is g q) ∙ omega arith
-
-  -- which M is then
-  M-is : reportedMaxEul (g .held) (kept ∷ g .days) ≡ highest (g .held) (kept ∷ g .days)
-  unfolding highest reportedMaxEul
-  M-is = refl
+  unfolding periodOf
+  reported-is =
+      ap (λ (o : Opening). max (highest (g .held) (g .days)) (ownMaxEul o accts)) (held-is g q) ∙ omega (arith, reported-more (g .held) kept (g .days))
 
   sized-is : (room : ℕ) → sizedPeriod (periodOf g) d ≡ periodOf (accept g (Call.day d room))
   unfolding periodOf accept
   sized-is room =
       ap (withAccrued (periodOf g))
       (by-fields refl (add-one (length (g .days)))
-      (reported-is ∙ M-is)
+      (reported-is ∙ reported-is-M (g .held) (kept ∷ g .days))
       (ap (λ (o : Opening). map (λ i. getD (map (sumAt (g .held) (g .days)) (range 0 32)) i 0 + shareOf o i) (range 0 32)) (held-is g q) ∙ more-sums))
 
   sized-good : (room : ℕ) → 0 < total (heldBy (periodOf g)) (accountsBrought (periodOf g) d) → Good (accept g (Call.day d room))
