@@ -115,12 +115,12 @@ pub record HighestSoFar : Type 2 where
       → Max ≡ ownMaxEul o (accounts (o .k) d)
   -- every list of compiled calls, as demand 3 has them
   pub compiled-day :
-      {M : Type 1} (𝓤 : URA M) (H : Heap 𝓤) (A : Atoms 𝓤) (mem : Memory → SProp 𝓤) (run : Routine → Fun 𝓤)
+      {R : Type 1} (𝓤 : URA R) (H : Heap 𝓤) (A : Atoms 𝓤) (mem : Memory → SProp 𝓤) (run : Routine → Fun 𝓤)
       (cs : List Called) (c : Called) (d : DayInput) (out : List ℕ) (T Max : ℕ) → FromFresh 𝓤 H A mem run (cs ++ (c ∷ []))
       → madeOf c .asked ≡ Asked.day d out → answerOf (madeOf c .reply .outcome) ≡ accepted (T ∷ Max ∷ [])
       → DayReports (registerAfter start (map madeOf cs)) (noted [] (map madeOf cs)) d T Max (madeOf c .after)
   pub compiled-closing :
-      {M : Type 1} (𝓤 : URA M) (H : Heap 𝓤) (A : Atoms 𝓤) (mem : Memory → SProp 𝓤) (run : Routine → Fun 𝓤)
+      {R : Type 1} (𝓤 : URA R) (H : Heap 𝓤) (A : Atoms 𝓤) (mem : Memory → SProp 𝓤) (run : Routine → Fun 𝓤)
       (cs : List Called) (c : Called) (out : List ℕ) (D M funds : ℕ) → FromFresh 𝓤 H A mem run (cs ++ (c ∷ []))
       → madeOf c .asked ≡ Asked.closing out → answerOf (madeOf c .reply .outcome) ≡ accepted (D ∷ M ∷ funds ∷ [])
       → let g = registerAfter start (map madeOf cs) in

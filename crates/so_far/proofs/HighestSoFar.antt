@@ -1,0 +1,212 @@
+-- The highest so far: what a day reports is M of the days up to it, so M is the highest of what is reported, and the last. By demand 3 the
+-- answers of every list of calls tell it, since a caller's notes are what the days that the register keeps report. With it the claim is
+-- whole: `highest-so-far`.
+use mathlib.Core.Path.{_≡_, refl, sym, ap, subst, _∙_}
+use mathlib.Core.List.{List, [], _∷_, _++_, map, map-append, flatMap, append-assoc}
+use Prim.Native.Nat.{ℕ, _*_, _≤_, _<_, max}
+use native.Mathlib.Omega.{arith}
+use lib.ListN.{length, getD}
+use Rattle.numbers.specs.Lists.{Every}
+use Rattle.numbers.specs.Sums.{greatest}
+use Rattle.numbers.specs.Rounding.{roundDiv}
+use Rattle.numbers.proofs.Rounding.{round-above, round-below}
+use Rattle.numbers.proofs.Sums.{greatest-map}
+use Rattle.methodology.specs.declared.Refusal.{Refusal}
+use Rattle.methodology.specs.declared.Refusal.the-variants.{Clear, Row, RowAt}
+use Rattle.methodology.specs.declared.Opening.{Opening}
+use Rattle.methodology.specs.Account.{DayInput, Account, members, accounts}
+use Rattle.methodology.specs.Member.{loss}
+use Rattle.methodology.specs.Day.{total, ownMaxEul, value, reserve, estimate, five, dailies}
+use Rattle.methodology.specs.Contribution.{KeptDay, reportedMaxEul, highest}
+use Rattle.methodology.specs.Register.{Call, Register, start, refusal, accept, ifAccepted, step, returned, written, Answer, accepted, answerBy, answer, buffer}
+use Rattle.methodology.proofs.Passed.{step-clear, opened-anew}
+use Rattle.methodology.proofs.SoFar.{reported-is-M, reported-more}
+use Rattle.fund.proofs.RawCharge.{highest-none}
+use Rattle.period.specs.Reading.{answerOf}
+use Rattle.period.specs.Calls.{freshPeriod}
+use Rattle.demand3.specs.Made.{Asked, Made, callOf, MadeOn}
+use Rattle.demand3.specs.Demand3.{Agrees, Holds, registerAfter, Fits64}
+use Rattle.demand3.proofs.EveryList.{holds-from, last-agrees, after-one}
+use Rattle.demand3.proofs.Demand3.{madeOf, demand-3}
+use Rattle.answers.proofs.RefusalRows.{is-clear}
+use Rattle.as_printed.specs.AsPrinted.{registerFed, AcceptedFits}
+use Rattle.as_printed.proofs.EveryReport.{as-printed}
+use Rattle.so_far.specs.HighestSoFar.{owns, reports, MIsTheSame, Nearest, noteAnswer, noted, DayReports, openedBy, HighestSoFar}
+
+-- ---- days
+
+module _ (o : Opening) where
+  owns-are : (days : List KeptDay) → highest o days ≡ greatest (owns o days) (λ x. x)
+  unfolding highest
+  owns-are days = sym (greatest-map (λ d. ownMaxEul o (d .accounts)) days (λ x. x))
+
+  reports-are : (days : List KeptDay) → highest o days ≡ greatest (reports o days) (λ x. x)
+  unfolding greatest
+  reports-are [] = highest-none o
+  reports-are (d ∷ ds) = omega (arith, reported-is-M o (d ∷ ds), reported-more o d ds, reports-are ds)
+
+  last-is : (days : List KeptDay) → highest o days ≡ getD (reports o days) 0 0
+  last-is [] = highest-none o
+  last-is (d ∷ ds) = sym (reported-is-M o (d ∷ ds))
+
+  m-is-the-same : (days : List KeptDay) → MIsTheSame (owns o days) (reports o days) (highest o days)
+  m-is-the-same days = record { highest-own = owns-are days; highest-reported = reports-are days; last-reported = last-is days }
+
+  -- what is reported is at most M
+  none-above : (most : ℕ) (days : List KeptDay) → highest o days ≤ most → Every (λ x. x ≤ most) (reports o days)
+  none-above most [] h = tt
+  none-above most (d ∷ ds) h =
+      (omega (arith, reported-is-M o (d ∷ ds)), none-above most ds (omega (arith, reported-is-M o (d ∷ ds), reported-more o d ds)))
+
+  first-is-own : (d : KeptDay) → reportedMaxEul o (d ∷ []) ≡ ownMaxEul o (d .accounts)
+  first-is-own d = omega (arith, reported-more o d [], highest-none o)
+
+  at-least-own : (d : KeptDay) (days : List KeptDay) → ownMaxEul o (d .accounts) ≤ reportedMaxEul o (d ∷ days)
+  at-least-own d days = omega (arith, reported-more o d days)
+
+  never-falls : (d : KeptDay) (days : List KeptDay) → Every (λ x. x ≤ reportedMaxEul o (d ∷ days)) (reports o days)
+  never-falls d days = none-above (reportedMaxEul o (d ∷ days)) days (omega (arith, reported-more o d days))
+
+cents : (e Max T : ℕ) → 0 < T
+    → Nearest (value e Max T) (100 * e * Max) T × Nearest (reserve e Max T) (110 * e * Max) T × Nearest (estimate e Max T) (220 * e * Max) T
+unfolding value reserve estimate
+cents e Max T positive =
+    let once : (f : ℕ) → Nearest (roundDiv (f * e * Max) T) (f * e * Max) T = λ f. (round-below (f * e * Max) T positive, round-above (f * e * Max) T positive) in
+    (once 100, once 110, once 220)
+
+-- ---- a caller's notes
+
+one-noted-by : (g : Register) (a : Asked) (x : Refusal)
+    → let after = ifAccepted x (accept g (callOf a)) g in
+    noteAnswer a (answerBy x (returned after (callOf a))) (reports (g .held) (g .days)) ≡ reports (after .held) (after .days)
+unfolding accept returned
+one-noted-by g (Asked.opening o) Clear = refl
+one-noted-by g (Asked.day d out) Clear = refl
+one-noted-by g (Asked.closing out) Clear = refl
+one-noted-by g a (Row number) = refl
+one-noted-by g a (RowAt number index) = refl
+
+one-noted : (g : Register) (c : Made) → Agrees g c
+    → let after = step g (callOf (c .asked)) in
+    noteAnswer (c .asked) (answerOf (c .reply .outcome)) (reports (g .held) (g .days)) ≡ reports (after .held) (after .days)
+unfolding step answer
+one-noted g c agreed =
+    ap (λ (a : Answer). noteAnswer (c .asked) a (reports (g .held) (g .days))) (agreed .answer) ∙ one-noted-by g (c .asked) (refusal g (callOf (c .asked)))
+
+-- they are what the days that the register keeps report
+noted-are : (g : Register) (cs ds : List Made) → Holds g (cs ++ ds)
+    → noted (reports (g .held) (g .days)) cs ≡ reports (registerAfter g cs .held) (registerAfter g cs .days)
+noted-are g [] ds h = refl
+noted-are g (c ∷ cs) ds (agreed, _, h) =
+    ap (λ (notes : List ℕ). noted notes cs) (one-noted g c agreed) ∙ noted-are (step g (callOf (c .asked))) cs ds h
+
+noted-more : (notes : List ℕ) (cs ds : List Made) → noted notes (cs ++ ds) ≡ noted (noted notes cs) ds
+noted-more notes [] ds = refl
+noted-more notes (c ∷ cs) ds = noted-more (noteAnswer (c .asked) (answerOf (c .reply .outcome)) notes) cs ds
+
+-- ---- the last call of a list of which demand 3 holds
+
+fed : (g : Register) (cs : List Made) → registerFed g (map (λ c. callOf (c .asked)) cs) ≡ registerAfter g cs
+fed g [] = refl
+fed g (c ∷ cs) = fed (step g (callOf (c .asked))) cs
+
+call-fits : (cs : List Made) (call : Call) → refusal (registerAfter start cs) call ≡ Clear → AcceptedFits (step (registerAfter start cs) call) call
+call-fits cs call =
+    subst (λ (g : Register). refusal g call ≡ Clear → AcceptedFits (step g call) call) (fed start cs) (as-printed .accepted-fits (map (λ c. callOf (c .asked)) cs) call)
+
+of-day : (cs : List Made) (c : Made) (d : DayInput) (out : List ℕ) (T Max : ℕ) → Holds start (cs ++ (c ∷ []))
+    → c .asked ≡ Asked.day d out → answerOf (c .reply .outcome) ≡ accepted (T ∷ Max ∷ [])
+    → DayReports (registerAfter start cs) (noted [] cs) d T Max (c .after)
+unfolding answer buffer accept returned written dailies greatest
+of-day cs c d out T Max holds is said =
+    let g = registerAfter start cs in
+    let o = g .held in
+    let call = Call.day d (length out) in
+    let accts = accounts (o .k) d in
+    let kept : KeptDay = record { number = d .terms .number; accounts = accts } in
+    let agreed = last-agrees start cs c holds in
+    let answered : answer g call ≡ accepted (T ∷ Max ∷ []) = rw is at (sym (agreed .answer) ∙ said) in
+    let (clear, same) = is-clear (refusal g call) _ _ answered in
+    let left = step-clear g call clear in
+    let told : total o accts ∷ reportedMaxEul o (kept ∷ g .days) ∷ [] ≡ T ∷ Max ∷ [] = ap (λ (x : Register). returned x call) (sym left) ∙ same in
+    let wrote : c .after ≡ written (step g call) call = agreed .buffer ∙ rw (is, clear) in
+    let reported : Max ≡ reportedMaxEul o (kept ∷ g .days) = sym (ap (λ (l : List ℕ). getD l 1 0) told) in
+    let notes : noted [] cs ≡ reports o (g .days) = noted-are start cs (c ∷ []) holds in
+    let M = m-is-the-same o (g .days) in
+    let fit = call-fits cs call clear in
+    record {
+      Max-is = reported ∙ omega (arith, reported-more o kept (g .days), M .highest-own);
+      so-far = rw notes (reported ∙ omega (arith, reported-more o kept (g .days), M .last-reported));
+      at-least-own = rw reported (at-least-own o kept (g .days));
+      never-falls = rw (reported, notes) (never-falls o kept (g .days));
+      T-is = sym (ap (λ (l : List ℕ). getD l 0 0) told);
+      writes =
+          wrote ∙ ap (λ (x : Register). written x call) left
+          ∙ ap (λ (l : List ℕ). flatMap (λ m. five (loss (o .k) accts m) (getD l 1 0) (getD l 0 0)) (members (o .n))) told;
+      fits =
+          let (T-fits, (Max-fits, _)) = subst (Every Fits64) same (fit .returned-fits) in
+          (T-fits, (Max-fits, rw wrote (fit .written-fits)));
+    }
+
+of-closing : (cs : List Made) (c : Made) (out : List ℕ) (D M funds : ℕ) → Holds start (cs ++ (c ∷ []))
+    → c .asked ≡ Asked.closing out → answerOf (c .reply .outcome) ≡ accepted (D ∷ M ∷ funds ∷ [])
+    → MIsTheSame (owns (registerAfter start cs .held) (registerAfter start cs .days)) (noted [] cs) M
+unfolding answer accept returned
+of-closing cs c out D M funds holds is said =
+    let g = registerAfter start cs in
+    let call = Call.closing (length out) in
+    let answered : answer g call ≡ accepted (D ∷ M ∷ funds ∷ []) = rw is at (sym (last-agrees start cs c holds .answer) ∙ said) in
+    let (clear, same) = is-clear (refusal g call) _ _ answered in
+    let kept = ap (λ (x : Register). highest (x .held) (x .days)) (step-clear g call clear) in
+    let M-is : highest (g .held) (g .days) ≡ M = sym kept ∙ ap (λ (l : List ℕ). getD l 1 0) same in
+    let notes = sym (noted-are start cs (c ∷ []) holds) in
+    subst (MIsTheSame (owns (g .held) (g .days)) (noted [] cs)) M-is
+    (subst (λ (notes : List ℕ). MIsTheSame (owns (g .held) (g .days)) notes (highest (g .held) (g .days))) notes (m-is-the-same (g .held) (g .days)))
+
+-- ---- an accepted opening
+
+begins-anew : (cs : List Made) (a : Made) (rest : List Made) (o : Opening) → Holds start (cs ++ (a ∷ rest))
+    → a .asked ≡ Asked.opening o → refusal (registerAfter start cs) (Call.opening o) ≡ Clear
+    → Holds (openedBy o) rest × (noted [] (cs ++ (a ∷ rest)) ≡ noted [] rest)
+unfolding answer returned
+begins-anew cs a rest o holds is clear =
+    let g = registerAfter start cs in
+    let (agreed, _, after) = holds-from start cs (a ∷ rest) holds in
+    let left : step g (callOf (a .asked)) ≡ openedBy o = rw is (opened-anew g o clear) in
+    let said : answerOf (a .reply .outcome) ≡ accepted [] = agreed .answer ∙ rw (is, clear) in
+    (subst (λ (g : Register). Holds g rest) left after, noted-more [] cs (a ∷ rest) ∙ rw (said, is))
+
+first-reports-own : (cs : List Made) (a c : Made) (o : Opening) (d : DayInput) (out : List ℕ) (T Max : ℕ)
+    → Holds start (cs ++ (a ∷ c ∷ [])) → a .asked ≡ Asked.opening o → refusal (registerAfter start cs) (Call.opening o) ≡ Clear
+    → c .asked ≡ Asked.day d out → answerOf (c .reply .outcome) ≡ accepted (T ∷ Max ∷ [])
+    → Max ≡ ownMaxEul o (accounts (o .k) d)
+unfolding greatest
+first-reports-own cs a c o d out T Max holds is clear is′ said =
+    let left : registerAfter start (cs ++ (a ∷ [])) ≡ openedBy o = after-one start cs a ∙ rw is (opened-anew (registerAfter start cs) o clear) in
+    let day = of-day (cs ++ (a ∷ [])) c d out T Max (subst (Holds start) (sym (append-assoc cs (a ∷ []) (c ∷ []))) holds) is′ said in
+    let Max-is = subst (λ (g : Register). Max ≡ greatest (ownMaxEul (g .held) (accounts (g .held .k) d) ∷ owns (g .held) (g .days)) (λ x. x)) left (day .Max-is) in
+    omega (arith, Max-is)
+
+-- ---- the claim
+
+pub highest-so-far : HighestSoFar
+highest-so-far =
+    record {
+      M-is-the-same = m-is-the-same;
+      first-is-own = first-is-own;
+      at-least-own = at-least-own;
+      never-falls = never-falls;
+      cents = cents;
+      day-reports = λ cs c d out T Max made. of-day cs c d out T Max (demand-3 .every-list (cs ++ (c ∷ [])) made);
+      closing-returns = λ cs c out D M funds made. of-closing cs c out D M funds (demand-3 .every-list (cs ++ (c ∷ [])) made);
+      begins-anew = λ cs a rest o made. begins-anew cs a rest o (demand-3 .every-list (cs ++ (a ∷ rest)) made);
+      first-reports-own = λ cs a c o d out T Max made. first-reports-own cs a c o d out T Max (demand-3 .every-list (cs ++ (a ∷ c ∷ [])) made);
+      compiled-day =
+          λ 𝓤 H A mem run cs c d out T Max from.
+          let holds = demand-3 .compiled-lists 𝓤 H A mem run (cs ++ (c ∷ [])) from in
+          of-day (map madeOf cs) (madeOf c) d out T Max (subst (Holds start) (map-append madeOf cs (c ∷ [])) holds);
+      compiled-closing =
+          λ 𝓤 H A mem run cs c out D M funds from.
+          let holds = demand-3 .compiled-lists 𝓤 H A mem run (cs ++ (c ∷ [])) from in
+          of-closing (map madeOf cs) (madeOf c) out D M funds (subst (Holds start) (map-append madeOf cs (c ∷ [])) holds);
+    }
