@@ -378,7 +378,8 @@ fn amounts(p: Period) -> Period {
     houses(75, p, 30, npvs, [MOST; 3], [MOST, 0, 0])
 }
 
-// Day 31, accepted, after which none can be; the closing, with row 4; and what a closed period refuses.
+// Day 31, accepted, which reports the Max EUL of day 30, and after which none can be; the closing, with row 4; and what a closed period
+// refuses.
 fn closed(p: Period) -> Period {
     let p = good(76, p, 30);
     let p = houses(77, p, 31, [1, 0, 1, 0, 1, 0], NONE, NONE);

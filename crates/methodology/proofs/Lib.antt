@@ -3,7 +3,6 @@ pub mod Figures
 pub mod WorkedCalls
 pub mod Passed
 pub mod RowLimits
-pub mod SoFar
 pub mod WorkedTexts
 pub mod WorkedLimits
 pub mod Splits
@@ -11,3 +10,4 @@ pub mod Enough
 pub mod Cut
 pub mod Reports
 pub mod Short
+pub mod SoFar
