@@ -222,7 +222,7 @@ struct Day {
     under: [Losses; SCENARIOS],
     losses: [u64; MEMBERS],
     groups: [[i64; SCENARIOS]; MEMBERS + 1],
-    own_max_eul: i64,
+    max_eul: i64,
 }
 
 impl Day {
@@ -232,7 +232,7 @@ impl Day {
             under: [Losses::default(); SCENARIOS],
             losses: [0; MEMBERS],
             groups: [[0; SCENARIOS]; MEMBERS + 1],
-            own_max_eul: 0,
+            max_eul: 0,
         }
     }
 
@@ -252,7 +252,7 @@ impl Day {
         self.losses[index] = self.own.eul().max(0) as u64;
         for (under, sum) in self.under[..k].iter().zip(&mut self.groups[group]) {
             let eul = under.eul();
-            self.own_max_eul = self.own_max_eul.max(eul);
+            self.max_eul = self.max_eul.max(eul);
             *sum += eul;
         }
         self.own = Losses::default();
@@ -260,9 +260,9 @@ impl Day {
     }
 
     /// Group 0 is no group; the rows of scenarios and groups that there are none of hold 0.
-    fn own_max_eul(&self) -> u64 {
+    fn max_eul(&self) -> u64 {
         let sums = self.groups[1..].iter().flatten().copied();
-        sums.fold(self.own_max_eul, i64::max) as u64
+        sums.fold(self.max_eul, i64::max) as u64
     }
 }
 
@@ -271,7 +271,7 @@ struct Period {
     k: usize,
     groups: [usize; MEMBERS],
     last_day: u64,
-    own_max_eul: u64,
+    max_eul: u64,
     days: u64,
     shares: [u64; MEMBERS],
 }
@@ -306,7 +306,7 @@ impl Period {
             k,
             groups,
             last_day: 0,
-            own_max_eul: 0,
+            max_eul: 0,
             days: 0,
             shares: [0; MEMBERS],
         })
@@ -368,16 +368,15 @@ impl Period {
         if total == 0 {
             return Err(Refused { row: 7, line });
         }
-        let own_max_eul = day.own_max_eul();
         self.last_day = number;
-        self.own_max_eul = self.own_max_eul.max(own_max_eul);
+        self.max_eul = self.max_eul.max(day.max_eul()); // the highest so far, which the day reports
         self.days += 1;
-        report.line(b"day", &[number, total, own_max_eul]);
+        report.line(b"day", &[number, total, self.max_eul]);
         let mut sums = [0; 5];
         for (i, &loss) in day.losses[..self.n].iter().enumerate() {
             let share = (u128::from(loss) * SHARE).div_ceil(u128::from(total)) as u64;
             self.shares[i] += share;
-            let product = u128::from(loss) * u128::from(own_max_eul);
+            let product = u128::from(loss) * u128::from(self.max_eul);
             let value = nearest(100 * product, total);
             let reserve = nearest(110 * product, total);
             let estimate = nearest(220 * product, total);
@@ -396,12 +395,12 @@ impl Period {
         let divisor = 10 * u128::from(self.days.max(1)) * SHARE;
         let mut charges = [0; MEMBERS];
         for (charge, &shares) in charges.iter_mut().zip(&self.shares[..self.n]) {
-            let dividend = 11 * u128::from(self.own_max_eul) * u128::from(shares);
+            let dividend = 11 * u128::from(self.max_eul) * u128::from(shares);
             *charge = dividend.div_ceil(divisor) as u64;
         }
         let charges = &charges[..self.n];
         let total = charges.iter().map(|&raw| raw.max(MINIMUM)).sum();
-        report.line(b"fund", &[self.days, self.own_max_eul, total]);
+        report.line(b"fund", &[self.days, self.max_eul, total]);
         for (i, &raw) in charges.iter().enumerate() {
             let funded = raw.max(MINIMUM);
             report.line(b"contribution", &[i as u64 + 1, raw, funded, 2 * funded]);

@@ -77,6 +77,8 @@ FROM = {
     "greatest": "Rattle.numbers.specs.Sums", "_⁻": "Rattle.numbers.specs.Signed",
     "take": "lib.ListN", "drop": "lib.ListN", "false": "mathlib.Core.Bool", "true": "mathlib.Core.Bool",
     "withGroups": "Rattle.methodology.specs.Account", "dailies": "Rattle.methodology.specs.Day",
+    "ownMaxEul": "Rattle.methodology.specs.Day", "reportedMaxEul": "Rattle.methodology.specs.Contribution",
+    "_++_": "mathlib.Core.List",
     "map": "mathlib.Core.List", "isOpen": "Rattle.methodology.specs.Refusals",
 }
 
@@ -87,6 +89,16 @@ Contribution.highest | greatest days (λ d. ownMaxEul o (d .accounts)) | greates
 Contribution.highest | greatest days (λ d. ownMaxEul o (d .accounts)) | greatest (drop (length days - 1) days) (λ d. ownMaxEul o (d .accounts))
 Contribution.highest | greatest days (λ d. ownMaxEul o (d .accounts)) | greatest (take 2 days) (λ d. ownMaxEul o (d .accounts))
 Contribution.highest | ownMaxEul o (d .accounts)) | total o (d .accounts))
+Contribution.reportedMaxEul | greatest days | greatest (take 4 days)
+Contribution.reportedMaxEul | greatest days | greatest (take 30 days)
+Contribution.reportedMaxEul | greatest days | greatest (drop (length days - 1) days)
+Contribution.reportedMaxEul | greatest days | greatest (take 1 days ++ drop (length days - 1) days)
+Contribution.reportedMaxEul | ownMaxEul o (d .accounts)) | total o (d .accounts))
+Register.returned | reportedMaxEul (g .held) (g .days) ∷ [] | ownMaxEul (g .held) (accounts (g .held .k) d) ∷ []
+Register.returned | reportedMaxEul (g .held) (g .days) ∷ [] | min (total (g .held) (accounts (g .held .k) d)) (reportedMaxEul (g .held) (g .days)) ∷ []
+Register.written | (reportedMaxEul (g .held) (g .days)) | (ownMaxEul (g .held) (accounts (g .held .k) d))
+Register.written | (reportedMaxEul (g .held) (g .days)) | (min (total (g .held) (accounts (g .held .k) d)) (reportedMaxEul (g .held) (g .days)))
+Register.written | (reportedMaxEul (g .held) (g .days)) | (reportedMaxEul (g .held) (drop 1 (g .days)))
 Contribution.sumOfShares | Σ days | Σ (take 2 days)
 Contribution.sumOfShares | Σ days | Σ (take 1 days)
 Contribution.raw | (length days) | (length (take 2 days))
@@ -183,8 +195,8 @@ Text.dayLines | (totals n out) | (columnSum 5 n out 0 ∷ 1000000000000 ∷ drop
 Text.dayLines | (totals n out) | (columnSum 5 n out 0 ∷ columnSum 5 n out 1 ∷ columnSum 5 n out 2 ∷ columnSum 5 n out 3 ∷ 2 * columnSum 5 n out 3 ∷ [])
 Text.dayLines | (totals n out) | (columnSum 5 n out 0 ∷ columnSum 5 n out 1 ∷ columnSum 5 n out 2 ∷ 11 * columnSum 5 n out 2 / 10 ∷ columnSum 5 n out 4 ∷ [])
 Text.dayLines | (totals n out) | (columnSum 5 n out 0 ∷ columnSum 5 n out 1 ∷ 100 * getD answer 1 0 ∷ drop 3 (totals n out))
-Text.sized | dayLines (d .terms .number) (after .held .n) (returned after call) (written after call) | printed (bytes "day") (d .terms .number ∷ returned after call) ++ rows (bytes "daily") 5 (after .held .n) (written after call) ++ printed (bytes "total") (totals (after .held .n) (flatMap (λ k. dailies (g .held) (k .accounts)) (take 1 (g .days))))
-Text.sized | dayLines (d .terms .number) (after .held .n) (returned after call) (written after call) | printed (bytes "day") (d .terms .number ∷ returned after call) ++ rows (bytes "daily") 5 (after .held .n) (written after call) ++ printed (bytes "total") (map (λ c. Σ (after .days) (λ k. columnSum 5 (after .held .n) (dailies (g .held) (k .accounts)) c)) (range 0 5))
+Text.sized | dayLines (d .terms .number) (after .held .n) (returned after call) (written after call) | printed (bytes "day") (d .terms .number ∷ returned after call) ++ rows (bytes "daily") 5 (after .held .n) (written after call) ++ printed (bytes "total") (totals (after .held .n) (flatMap (λ k. dailies (g .held) (reportedMaxEul (g .held) (g .days)) (k .accounts)) (take 1 (g .days))))
+Text.sized | dayLines (d .terms .number) (after .held .n) (returned after call) (written after call) | printed (bytes "day") (d .terms .number ∷ returned after call) ++ rows (bytes "daily") 5 (after .held .n) (written after call) ++ printed (bytes "total") (map (λ c. Σ (after .days) (λ k. columnSum 5 (after .held .n) (dailies (g .held) (reportedMaxEul (g .held) (after .days)) (k .accounts)) c)) (range 0 5))
 Text.followedBy | report ++ rest next | rest next
 """.strip().split("\n")]
 

@@ -160,8 +160,9 @@ rest-back {g = g} near k (a-day {rest = rest} d clear more) =
     let members = ap (λ (x : Register). x .held .n) (step-clear g call clear) in
     let count : length (after .days) ≡ length (g .days) + 1 = ap (λ (x : Register). length (x .days)) (step-clear g call clear) ∙ omega arith in
     let top = highest (g .held) (g .days) in
-    let later = subst (λ (top : ℕ). ReadsBack (after .held .n) (length (after .days)) top rest) (sym (Max-is-M k d clear)) (rest-back near (fit k d clear .kept) more) in
-    let counted = subst (λ (before : ℕ). ReadsBack (after .held .n) before (Max k d clear) rest) count later in
+    let later = rest-back near (fit k d clear .kept) more in
+    let reported = subst (λ (top : ℕ). ReadsBack (after .held .n) (length (after .days)) top rest) (sym (Max-is-M k d clear)) later in
+    let counted = subst (λ (before : ℕ). ReadsBack (after .held .n) before (Max k d clear) rest) count reported in
     subst (λ (n : ℕ). ReadsBack n (length (g .days)) top (sizedLines after d call ++ rest)) members
     (day-so (day-back k d clear) (day-sums k d clear) (no-refusal k d clear) (higher k d clear) counted)
 rest-back {g = g} near k (a-fund clear) =
@@ -169,9 +170,10 @@ rest-back {g = g} near k (a-fund clear) =
     let after = step g call in
     let fit = call-fits k call in
     let few = fit .kept .follows .good .members-few in
+    let first-two = ap (λ (x : Register). length (x .days) ∷ highest (x .held) (x .days) ∷ []) (step-clear g call clear) in
     ends-so (fund-shows (after .held .n) (returned after call) (written after call) (fit .returned-fits clear) (fit .written-fits clear) few)
     (fund-other (after .held .n) (returned after call) (written after call))
-    (fund-counts (after .held .n) (returned after call) (written after call) (ap (λ (x : Register). length (x .days) ∷ highest (x .held) (x .days) ∷ []) (step-clear g call clear)))
+    (fund-counts (after .held .n) (returned after call) (written after call) first-two)
     (fund-told (after .held .n) (returned after call) (written after call))
 rest-back near k (a-refusal number line h in-text) = refused-back number line h (omega arith)
 
@@ -184,7 +186,8 @@ report-back {n} {s = s} near (a-period o is few clear rest) =
     let M-is : highest (after .held) (after .days) ≡ 0 = rw none (highest-none (after .held)) in
     let back = rest-back near (call-fits kept-first (Call.opening o) .kept) rest in
     let of-all = subst (λ (n : ℕ). ReadsBack n (length (after .days)) (highest (after .held) (after .days)) s) members back in
-    subst (λ (top : ℕ). ReadsBack n 0 top s) M-is (subst (λ (days : List KeptDay). ReadsBack n (length days) (highest (after .held) (after .days)) s) none of-all)
+    let counted = subst (λ (days : List KeptDay). ReadsBack n (length days) (highest (after .held) (after .days)) s) none of-all in
+    subst (λ (top : ℕ). ReadsBack n 0 top s) M-is counted
 report-back near (no-period number line h in-text) = refused-back number line h (omega arith)
 
 -- the number of members, off the text's first line

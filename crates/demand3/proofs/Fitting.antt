@@ -174,7 +174,9 @@ fits {p} q (Asked.day d out) r after m =
       answer = rw (m .answer) (answer-fits x _ (day-row-few p d (length out)) (λ e. day-figures-fit p d (length out) (pass e)));
       period = subst Narrow (sym (m .period)) (either Narrow x _ p (λ e. narrow-sized p d (sized-in-range p d (pass e .0) (pass e .1)) q) q);
       buffer = λ b. subst (Every Fits64) (sym (m .buffer)) (either (Every Fits64) x _ out (λ e. dailies-fit p d (length out) (pass e)) b);
-      long = ap length (m .buffer) ∙ either (λ (l : List ℕ). length l ≡ length out) x _ out (λ e. dailies-long (heldBy p) (reportedBy p d) (accountsBrought p d) ∙ sym (pass e .0 .room-long)) refl;
+      long =
+          ap length (m .buffer)
+          ∙ either (λ (l : List ℕ). length l ≡ length out) x _ out (λ e. dailies-long (heldBy p) _ (accountsBrought p d) ∙ sym (pass e .0 .room-long)) refl;
     }
 fits {p} q (Asked.closing out) r after m =
     let x = closingRow p (length out) in

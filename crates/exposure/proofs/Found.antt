@@ -1,4 +1,4 @@
--- What the program found of a day is the day's: T and each member's loss, within their bounds, and a Max EUL that is at most T.
+-- What the program found of a day is the day's: T and each member's loss, which is a part of it.
 use mathlib.Core.Path.{_≡_, sym, ap, _∙_}
 use mathlib.Core.List.{List}
 use Prim.Native.Nat.{ℕ, _+_, _≤_, _<_}
@@ -10,12 +10,12 @@ use Rattle.numbers.proofs.Lists.{range-mem, table-at}
 use Rattle.methodology.specs.declared.Opening.{Opening}
 use Rattle.methodology.specs.Account.{Account}
 use Rattle.methodology.specs.Member.{loss}
-use Rattle.methodology.specs.Day.{total, ownMaxEul}
+use Rattle.methodology.specs.Day.{total}
 use Rattle.validation.specs.Slices.{Lent}
 use Rattle.exposure.specs.declared.day.Losses.{Losses}
 use Rattle.exposure.specs.MemberCut.{Owners}
 use Rattle.exposure.specs.DayFigures.{LossesAre}
-use Rattle.exposure.proofs.MaxTotal.{loss-le-total, max-le-total}
+use Rattle.exposure.proofs.MaxTotal.{loss-le-total}
 
 module _ (o : Opening) (accts : List Account) {holders kinds : List ℕ} {npvs : List ℤ} {margins extras : List ℕ} (lent : Lent (o .k) kinds npvs margins extras accts) (own : Owners holders accts) (r : Losses) (found : LossesAre (o .n) (o .k) holders kinds npvs margins extras r) where
   pub total-is : r .total ≡ total o accts
@@ -30,6 +30,3 @@ module _ (o : Opening) (accts : List Account) {holders kinds : List ℕ} {npvs :
 
   pub loss-part : (i : ℕ) → i < o .n → getD (r .each) i 0 ≤ r .total
   loss-part i l = rw (loss-at i l, total-is) (loss-le-total o accts {m = 1 + i} (range-mem 1 (o .n) (omega arith) (omega arith)))
-
-  pub top-part : (top : ℕ) → top ≡ ownMaxEul o accts → top ≤ r .total
-  top-part top e = rw (e, total-is) (max-le-total o accts)

@@ -1,4 +1,4 @@
--- Max EUL by rows: each group sum is the EUL of one member alone or a row, and each row is a group sum or 0.
+-- A day's own Max EUL by rows: each group sum is the EUL of one member alone or a row, and each row is a group sum or 0.
 -- The program adds up one row for each group number, member by member: `rowUpto` after i members, `row-none`, `row-in` and `row-out` its start
 -- and its step.
 use mathlib.Core.Path.{_≡_, refl, ap}
@@ -51,7 +51,7 @@ module _ (o : Opening) (accts : List Account) (m j : ℕ) where
   unfolding groupSum groupOf rowUpto
   group-row n = rw (ne-eqb (groupNumber o m) 0 n)
 
--- Max EUL, where no group number is above `most`: the greatest of all members' EULs and all rows
+-- its own Max EUL, where no group number is above `most`: the greatest of all members' EULs and all rows
 module _ (o : Opening) (accts : List Account) where
   abbrev ofMember : (m : ℕ) → ℕ
   ofMember m = greatest (scenarios (o .k)) (λ j. memberUnder accts m j ⁺)

@@ -1,5 +1,5 @@
--- The pass over the members that finds Max EUL: the greatest EUL of the members passed, and the rows of their groups. One member's row joins
--- one group's, number by number.
+-- The pass over the members that finds a day's own Max EUL: the greatest EUL of the members passed, and the rows of their groups. One
+-- member's row joins one group's, number by number.
 use mathlib.Core.Path.{_≡_, refl, sym, ap, ap₂, _∙_, fun-ext}
 use mathlib.Core.Bool.{Bool, true, false, cond}
 use mathlib.Core.List.{List, [], map}

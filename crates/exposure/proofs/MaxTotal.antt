@@ -1,4 +1,4 @@
--- A day's Max EUL is at most its total: no EUL under a scenario is above the member's loss, and a group is a part of the members.
+-- A day's own Max EUL is at most its total: no EUL under a scenario is above the member's loss, and a group is a part of the members.
 use mathlib.Core.Bool.{Bool, true, false, cond}
 use mathlib.Core.List.{List, [], _∷_}
 use Prim.Native.Nat.{ℕ, _≤_}

@@ -45,7 +45,7 @@ pub record LossesAre (n k : ℕ) (holders kinds : List ℕ) (npvs : List ℤ) (m
 pub record Grouped (o : Opening) : Type 0 where
   pub few : (i : ℕ) → i < o .n → getD (o .groups) i 0 ≤ 32
 
--- Max EUL
+-- its own Max EUL
 pub record MaxIs (o : Opening) (holders kinds : List ℕ) (npvs : List ℤ) (margins extras : List ℕ) (r : ℕ) : Type 0 where
   pub is : (accts : List Account) → Lent (o .k) kinds npvs margins extras accts → Owners holders accts → r ≡ ownMaxEul (listed o) accts
 

@@ -1,4 +1,4 @@
-// A day's losses, T and Max EUL. A member's accounts are a part of the day's slices, since members come in rising order.
+// A day's losses, T and its own Max EUL. A member's accounts are a part of the day's slices, since members come in rising order.
 use crate::member::gain;
 use crate::member::member_eul;
 use crate::rows::add_row;
@@ -139,7 +139,8 @@ pub fn own_max_eul(
     greater(top, rows_greatest(rows))
 }
 
-// A day's own figures, worked from its accounts and what the opening brought alone: losses, T, and `top`, its Max EUL.
+// A day's own figures, worked from its accounts and what the opening brought alone: losses, T, and `top`, its own
+// Max EUL.
 pub struct Figures {
     pub losses: Losses,
     pub top: u64,

@@ -1,4 +1,4 @@
-// From a day's accounts, in plain slices, to each member's loss, T and Max EUL.
+// From a day's accounts, in plain slices, to each member's loss, T and the day's own Max EUL.
 mod account;
 pub mod day;
 mod member;

@@ -9,7 +9,8 @@ ghost use Rattle.methodology.specs.Contribution.{charge, funded, three};
 ghost use Rattle.quotient.specs.Ranges.{greatestTotal, Loss, Charge};
 ghost use Rattle.fund.specs.Shares.{shareIn, withShares};
 
-// One member's five daily numbers, at the front of out: its loss is e, the total t, the day's Max EUL max.
+// One member's five daily numbers, at the front of out: its loss is e, the total t, and max the Max EUL that the day
+// reports.
 fn write_five(e: u64, max: u64, t: u64, out: &mut [u64])
     requires { ⌜ Loss e t × (max ≤ greatestTotal) ⌝ }
     requires { ⌜ 5 ≤ length (now out) ⌝ }

@@ -1,10 +1,10 @@
 -- Calls worked by the register: document 01's printed month; M on each of three days; a month whose Max EULs fall and rise; months that have
--- not begun; a period whose calls meet every condition of the refusal table from both sides, and every pair of its order of precedence. One table, one theorem: each answer, and
--- each number left in a buffer, is the one due. By computation. The figures were worked out from the documents by a recalculation of its
--- own. The largest periods are in WorkedLimits.antt.
+-- not begun; a period whose calls meet every condition of the refusal table from both sides, and every pair of its order of precedence. One
+-- table, one theorem: each answer, and each number left in a buffer, is the one due. By computation. The figures were worked out from the
+-- documents by a recalculation of its own. The largest periods are in WorkedLimits.antt.
 use mathlib.Core.Path.{_≡_, refl}
 use mathlib.Core.List.{List, [], _∷_, _++_, map}
-use Prim.Native.Nat.{ℕ, suc, _*_}
+use Prim.Native.Nat.{ℕ, _*_}
 use lib.IntN.{ℤ, pos}
 use lib.ListN.{length, drop, replicate}
 use Rattle.methodology.specs.declared.Status.the-variants.{Fresh, Open, Closed}

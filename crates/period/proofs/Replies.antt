@@ -1,5 +1,5 @@
 -- Replies by what the refusal table says.
-use mathlib.Core.Path.{_≡_, refl, sym, ap, _∙_}
+use mathlib.Core.Path.{_≡_, refl, sym, _∙_}
 use mathlib.Core.Bool.{true, false, true≢false}
 use mathlib.Core.List.{List, [], flatMap}
 use Prim.Native.Nat.{ℕ}

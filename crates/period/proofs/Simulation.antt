@@ -186,11 +186,13 @@ module _ (g : Register) (q : Good g) (d : DayInput) where
         counted = (rw (held-is g q) at t, q .counted);
       }
 
-  day-says : (room : ℕ) → total (heldBy (periodOf g)) (accountsBrought (periodOf g) d) ∷ reportedBy (periodOf g) d ∷ [] ≡ returned (accept g (Call.day d room)) (Call.day d room)
+  day-says : (room : ℕ) → total (heldBy (periodOf g)) (accountsBrought (periodOf g) d) ∷ reportedBy (periodOf g) d ∷ []
+      ≡ returned (accept g (Call.day d room)) (Call.day d room)
   unfolding periodOf accept returned
   day-says room = rw (reported-is, held-is g q)
 
-  as-written : (room : ℕ) → dailies (heldBy (periodOf g)) (reportedBy (periodOf g) d) (accountsBrought (periodOf g) d) ≡ written (accept g (Call.day d room)) (Call.day d room)
+  as-written : (room : ℕ) → dailies (heldBy (periodOf g)) (reportedBy (periodOf g) d) (accountsBrought (periodOf g) d)
+      ≡ written (accept g (Call.day d room)) (Call.day d room)
   unfolding periodOf accept written
   as-written room = rw (reported-is, held-is g q)
 

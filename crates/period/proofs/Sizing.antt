@@ -7,7 +7,7 @@ use native.Mathlib.Nat.{add-comm}
 use native.Mathlib.Omega.{arith}
 use lib.Dec.{ltb, eqb}
 use lib.IntN.{ℤ}
-use lib.ListN.{length, getD, take}
+use lib.ListN.{getD, take}
 use lib.Seq.{getD-take}
 use borrow.Author.Tests.{ltb-true, lt-ltb, eqb-true, eqb-false, not-false}
 use Rattle.numbers.specs.Lists.{range, Every}
@@ -23,7 +23,7 @@ use Rattle.methodology.proofs.RowLimits.{accounts-long}
 use Rattle.quotient.specs.Ranges.{Loss, greatestTotal}
 use Rattle.quotient.proofs.QuotientBounds.{share-le}
 use Rattle.validation.specs.Slices.{plainDay, Even, Lent, none}
-use Rattle.validation.specs.Passing.{Sized, Passes}
+use Rattle.validation.specs.Passing.{Passes}
 use Rattle.validation.proofs.Headings.{headings-length}
 use Rattle.validation.proofs.OpeningPasses.{opening-leaves}
 use Rattle.validation.proofs.DayPasses.{sized, passes, accounts-lent, accounts-members}
@@ -129,7 +129,8 @@ module _ (p : Period) (d : DayInput) where
   share-at : (i : ℕ) → cond (ltb i (p .held .n)) (shareIn (dailies (heldBy p) (reportedBy p d) (accountsBrought p d)) i) 0 ≡ shareAt p d i
   share-at i = written-at i (ltb i (p .held .n)) refl
 
-  pub shares-few : 0 < total (heldBy p) (accountsBrought p d) → (i : ℕ) → i < p .held .n → shareIn (dailies (heldBy p) (reportedBy p d) (accountsBrought p d)) i ≤ scale
+  pub shares-few : 0 < total (heldBy p) (accountsBrought p d) → (i : ℕ) → i < p .held .n
+      → shareIn (dailies (heldBy p) (reportedBy p d) (accountsBrought p d)) i ≤ scale
   shares-few positive i h = rw (sym (share-at i), lt-ltb i (p .held .n) h) at (share-few p d positive i)
 
   -- so the period that takes them in is the one that the accounts give

@@ -6,7 +6,7 @@ use mathlib.Core.Path.{_≡_}
 use Prim.Native.Nat.{ℕ, _+_, _*_, max}
 use lib.Dec.{leb, ltb}
 use lib.ListN.{length, take, replicate}
-use Rattle.numbers.specs.Lists.{range, any}
+use Rattle.numbers.specs.Lists.{any}
 use Rattle.numbers.specs.Sums.{Σ}
 use Rattle.methodology.specs.declared.Status.{Status}
 use Rattle.methodology.specs.declared.Status.the-variants.{Fresh, Open, Closed}

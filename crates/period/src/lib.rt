@@ -41,8 +41,8 @@ pub struct Accrued {
     sums: [u64; 32],
 }
 
-// What a call says: acceptance, with a day's T and the Max EUL that it reports or a closing's D, M and total funded, or one numbered refusal, with its index in
-// rows 5 and 6. `answerOf` in specs/Reading.antt gives document 01's number and values for each case.
+// What a call says: acceptance, with a day's T and the Max EUL that it reports or a closing's D, M and total funded, or one numbered
+// refusal, with its index in rows 5 and 6. `answerOf` in specs/Reading.antt gives document 01's number and values for each case.
 pub enum Outcome {
     Opened,
     Sized(u64, u64),

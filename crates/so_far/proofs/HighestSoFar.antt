@@ -3,7 +3,7 @@
 -- whole: `highest-so-far`.
 use mathlib.Core.Path.{_≡_, refl, sym, ap, subst, _∙_}
 use mathlib.Core.List.{List, [], _∷_, _++_, map, map-append, flatMap, append-assoc}
-use Prim.Native.Nat.{ℕ, _*_, _≤_, _<_, max}
+use Prim.Native.Nat.{ℕ, _*_, _≤_, _<_}
 use native.Mathlib.Omega.{arith}
 use lib.ListN.{length, getD}
 use Rattle.numbers.specs.Lists.{Every}
@@ -14,7 +14,7 @@ use Rattle.numbers.proofs.Sums.{greatest-map}
 use Rattle.methodology.specs.declared.Refusal.{Refusal}
 use Rattle.methodology.specs.declared.Refusal.the-variants.{Clear, Row, RowAt}
 use Rattle.methodology.specs.declared.Opening.{Opening}
-use Rattle.methodology.specs.Account.{DayInput, Account, members, accounts}
+use Rattle.methodology.specs.Account.{DayInput, members, accounts}
 use Rattle.methodology.specs.Member.{loss}
 use Rattle.methodology.specs.Day.{total, ownMaxEul, value, reserve, estimate, five, dailies}
 use Rattle.methodology.specs.Contribution.{KeptDay, reportedMaxEul, highest}
@@ -23,8 +23,7 @@ use Rattle.methodology.proofs.Passed.{step-clear, opened-anew}
 use Rattle.methodology.proofs.SoFar.{reported-is-M, reported-more}
 use Rattle.fund.proofs.RawCharge.{highest-none}
 use Rattle.period.specs.Reading.{answerOf}
-use Rattle.period.specs.Calls.{freshPeriod}
-use Rattle.demand3.specs.Made.{Asked, Made, callOf, MadeOn}
+use Rattle.demand3.specs.Made.{Asked, Made, callOf}
 use Rattle.demand3.specs.Demand3.{Agrees, Holds, registerAfter, Fits64}
 use Rattle.demand3.proofs.EveryList.{holds-from, last-agrees, after-one}
 use Rattle.demand3.proofs.Demand3.{madeOf, demand-3}
@@ -71,7 +70,8 @@ cents : (e Max T : ℕ) → 0 < T
     → Nearest (value e Max T) (100 * e * Max) T × Nearest (reserve e Max T) (110 * e * Max) T × Nearest (estimate e Max T) (220 * e * Max) T
 unfolding value reserve estimate
 cents e Max T positive =
-    let once : (f : ℕ) → Nearest (roundDiv (f * e * Max) T) (f * e * Max) T = λ f. (round-below (f * e * Max) T positive, round-above (f * e * Max) T positive) in
+    let once : (f : ℕ) → Nearest (roundDiv (f * e * Max) T) (f * e * Max) T =
+    λ f. (round-below (f * e * Max) T positive, round-above (f * e * Max) T positive) in
     (once 100, once 110, once 220)
 
 -- ---- a caller's notes
@@ -112,7 +112,8 @@ fed g (c ∷ cs) = fed (step g (callOf (c .asked))) cs
 
 call-fits : (cs : List Made) (call : Call) → refusal (registerAfter start cs) call ≡ Clear → AcceptedFits (step (registerAfter start cs) call) call
 call-fits cs call =
-    subst (λ (g : Register). refusal g call ≡ Clear → AcceptedFits (step g call) call) (fed start cs) (as-printed .accepted-fits (map (λ c. callOf (c .asked)) cs) call)
+    subst (λ (g : Register). refusal g call ≡ Clear → AcceptedFits (step g call) call) (fed start cs)
+    (as-printed .accepted-fits (map (λ c. callOf (c .asked)) cs) call)
 
 of-day : (cs : List Made) (c : Made) (d : DayInput) (out : List ℕ) (T Max : ℕ) → Holds start (cs ++ (c ∷ []))
     → c .asked ≡ Asked.day d out → answerOf (c .reply .outcome) ≡ accepted (T ∷ Max ∷ [])
@@ -184,7 +185,8 @@ unfolding greatest
 first-reports-own cs a c o d out T Max holds is clear is′ said =
     let left : registerAfter start (cs ++ (a ∷ [])) ≡ openedBy o = after-one start cs a ∙ rw is (opened-anew (registerAfter start cs) o clear) in
     let day = of-day (cs ++ (a ∷ [])) c d out T Max (subst (Holds start) (sym (append-assoc cs (a ∷ []) (c ∷ []))) holds) is′ said in
-    let Max-is = subst (λ (g : Register). Max ≡ greatest (ownMaxEul (g .held) (accounts (g .held .k) d) ∷ owns (g .held) (g .days)) (λ x. x)) left (day .Max-is) in
+    let highest-of : Register → ℕ = λ g. greatest (ownMaxEul (g .held) (accounts (g .held .k) d) ∷ owns (g .held) (g .days)) (λ x. x) in
+    let Max-is = subst (λ (g : Register). Max ≡ highest-of g) left (day .Max-is) in
     omega (arith, Max-is)
 
 -- ---- the claim

@@ -17,7 +17,7 @@ use Rattle.numbers.specs.Sums.{greatest}
 use Rattle.methodology.specs.declared.Status.the-variants.{Open}
 use Rattle.methodology.specs.declared.Refusal.the-variants.{Clear}
 use Rattle.methodology.specs.declared.Opening.{Opening}
-use Rattle.methodology.specs.Account.{DayInput, Account, members, accounts}
+use Rattle.methodology.specs.Account.{DayInput, members, accounts}
 use Rattle.methodology.specs.Member.{loss}
 use Rattle.methodology.specs.Day.{total, ownMaxEul, value, reserve, estimate, five}
 use Rattle.methodology.specs.Contribution.{KeptDay, reportedMaxEul, highest}
