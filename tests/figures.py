@@ -11,7 +11,7 @@ def house(member, losses, margin=0):
 
 
 def own_max_eul(groups, *losses, margins=(0, 0, 0)):
-    """The Max EUL of a day of house accounts."""
+    """The own Max EUL of a day of house accounts."""
     accounts = [house(i, under, margins[i - 1]) for i, under in enumerate(losses, 1)]
     return day_figures(len(losses), len(losses[0]), groups, accounts)[1]
 

@@ -524,16 +524,16 @@ SO_FAR = [
     ("two days with their totals; 9 on a third", stored("so-far-35")),
     ("three days with their totals; 5 on a fourth", stored("so-far-36")),
     ("the highest on the fourth day; 9 after it", stored("so-far-37")),
-    ("a day of a dollar and one of 7 after a high one; 9 on a third", stored("so-far-38")),
+    ("a day of a dollar and one of 7 after a high one; 9 after them", stored("so-far-38")),
     ("one member: the highest on the third of four days, three scenarios", stored("so-far-39")),
     ("three days, the third between the others; 9 after them", stored("so-far-40")),
     ("one member with a group of its own, four days that fall", stored("so-far-41")),
     ("the highest on the first of four days, of which the last two rise; 9 after them", stored("so-far-42")),
-    ("a day of own Max EUL 0 after one near three times the limit; 9 on a third", stored("so-far-43")),
+    ("a day of own Max EUL 0 after one near three times the limit; 9 after them", stored("so-far-43")),
 ]
 
 # Of the months of VALID the longest is run by `vectors` alone, of those of TOTALS all but these: cents rounded both ways, a group, two days
-# of one T, a day of own Max EUL 0, equal days; of those of NOT_BEGUN the first two are worked out, of those of SO_FAR four short ones.
+# of one T, a day of own Max EUL 0, equal days; of those of NOT_BEGUN the first two are worked out, of those of SO_FAR six short ones.
 WORKED = (BOTH + WORKED_ONLY + VALID[:5] + VALID[6:] + [TOTALS[i] for i in (1, 6, 12, 14, 15)] + NOT_BEGUN[:2]
-          + [SO_FAR[i] for i in (2, 8, 13, 29)])
+          + [SO_FAR[i] for i in (2, 8, 13, 18, 29, 43)])
 VECTORS = BOTH + VALID + VECTORS_ONLY + TOTALS + NOT_BEGUN + SO_FAR

@@ -94,6 +94,8 @@ Contribution.reportedMaxEul | greatest days | greatest (take 30 days)
 Contribution.reportedMaxEul | greatest days | greatest (drop (length days - 1) days)
 Contribution.reportedMaxEul | greatest days | greatest (take 1 days ++ drop (length days - 1) days)
 Contribution.reportedMaxEul | ownMaxEul o (d .accounts)) | total o (d .accounts))
+Contribution.reportedMaxEul | greatest days (λ d. ownMaxEul o (d .accounts)) | max (greatest (take 1 days) (λ d. ownMaxEul o (d .accounts))) (min 1000000000000 (greatest days (λ d. ownMaxEul o (d .accounts))))
+Contribution.reportedMaxEul | greatest days (λ d. ownMaxEul o (d .accounts)) | max (greatest (take 1 days) (λ d. ownMaxEul o (d .accounts))) (min 700000000000000 (greatest days (λ d. ownMaxEul o (d .accounts))))
 Register.returned | reportedMaxEul (g .held) (g .days) ∷ [] | ownMaxEul (g .held) (accounts (g .held .k) d) ∷ []
 Register.returned | reportedMaxEul (g .held) (g .days) ∷ [] | min (total (g .held) (accounts (g .held .k) d)) (reportedMaxEul (g .held) (g .days)) ∷ []
 Register.written | (reportedMaxEul (g .held) (g .days)) | (ownMaxEul (g .held) (accounts (g .held .k) d))

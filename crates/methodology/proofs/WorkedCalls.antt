@@ -1,7 +1,7 @@
--- Calls worked by the register: document 01's printed month; M on each of three days; a month whose Max EULs fall and rise; months that have
--- not begun; a period whose calls meet every condition of the refusal table from both sides, and every pair of its order of precedence. One
--- table, one theorem: each answer, and each number left in a buffer, is the one due. By computation. The figures were worked out from the
--- documents by a recalculation of its own. The largest periods are in WorkedLimits.antt.
+-- Calls worked by the register: document 01's printed month; M on each of three days; a month whose own Max EULs fall and rise; months
+-- that have not begun; a period whose calls meet every condition of the refusal table from both sides, and every pair of its order of
+-- precedence. One table, one theorem: each answer, and each number left in a buffer, is the one due. By computation. The figures were worked
+-- out from the documents by a recalculation of its own. The largest periods are in WorkedLimits.antt.
 use mathlib.Core.Path.{_≡_, refl}
 use mathlib.Core.List.{List, [], _∷_, _++_, map}
 use Prim.Native.Nat.{ℕ, _*_}
@@ -273,7 +273,7 @@ mixed =
     ∷ acct 3 0 H (pos 0) 500 100 (minus 200 ∷ minus 100 ∷ [])
     ∷ []
 
--- member 1's two accounts lose under different scenarios: T is 10, and Max EUL is 0
+-- member 1's two accounts lose under different scenarios: T is 10, and its own Max EUL is 0
 abbrev hedged : List Line
 hedged =
     acct 1 0 H (pos 0) 10 0 (minus 10 ∷ pos 0 ∷ [])

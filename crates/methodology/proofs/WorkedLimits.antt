@@ -2,12 +2,12 @@
 -- computation; the figures are those of a recalculation of its own from the documents.
 use mathlib.Core.Path.{_≡_, refl}
 use mathlib.Core.List.{List, [], _∷_, _++_, map, flatMap}
-use Prim.Native.Nat.{_-_}
+use Prim.Native.Nat.{ℕ, _-_}
 use lib.IntN.{pos}
 use lib.ListN.{replicate}
 use Rattle.numbers.specs.Lists.{range}
 use Rattle.methodology.specs.Register.{Call, day, closing, start, accepted, refused, refusedAt}
-use Rattle.methodology.proofs.Samples.{computed, H, U, Line, acct, losing, dayOf, brings, Exchange, _gets_, _gets_writing_, played}
+use Rattle.methodology.proofs.Samples.{computed, H, U, Line, acct, minus, losing, dayOf, brings, Exchange, _gets_, _gets_writing_, played}
 
 -- Member 32, whose Affiliate is member 31, on day 31; the others lose 1.
 abbrev member-32 : List Exchange
@@ -80,8 +80,27 @@ accounts-256 =
     ∷ with-last (losing 1 65535 U (pos 1)) gets accepted (384 ∷ 384 ∷ []) writing (384 ∷ 1000000000000 ∷ 38400 ∷ 42240 ∷ 84480 ∷ [])
     ∷ []
 
+-- 256 accounts that fall from limit to limit: no Max EUL is higher. A day on which a dollar is lost reports it, and its cents go by it.
+abbrev falling : (number kind : ℕ) → Line
+falling number kind = acct 1 number kind (pos 1000000000000) 0 0 (minus 1000000000000 ∷ [])
+
+abbrev highest-of-all : List Exchange
+highest-of-all =
+    brings 1 1 (0 ∷ []) gets accepted []
+    ∷ day (dayOf 1 (falling 0 H ∷ map (λ i. falling i U) (range 1 255))) 5
+    gets accepted (767000000000000 ∷ 767000000000000 ∷ [])
+    writing (767000000000000 ∷ 1000000000000 ∷ 76700000000000000 ∷ 84370000000000000 ∷ 168740000000000000 ∷ [])
+    ∷ day (dayOf 2 (losing 1 0 H (pos 1) ∷ [])) 5
+    gets accepted (1 ∷ 767000000000000 ∷ [])
+    writing (1 ∷ 1000000000000 ∷ 76700000000000000 ∷ 84370000000000000 ∷ 168740000000000000 ∷ [])
+    ∷ closing 3
+    gets accepted (2 ∷ 767000000000000 ∷ 843700000000000 ∷ [])
+    writing (843700000000000 ∷ 843700000000000 ∷ 1687400000000000 ∷ [])
+    ∷ []
+
 pub limit-lists : List (List Exchange)
-limit-lists = member-32 ∷ not-begun ∷ under-one under-16 ∷ under-one under-1 ∷ one-by-one ∷ stress-outside ∷ accounts-256 ∷ []
+limit-lists =
+    member-32 ∷ not-begun ∷ under-one under-16 ∷ under-one under-1 ∷ one-by-one ∷ stress-outside ∷ accounts-256 ∷ highest-of-all ∷ []
 
 pub worked-limits : map (played start) limit-lists ≡ limit-lists
 unfolding limit-lists played computed
