@@ -80,7 +80,8 @@ Other l = (same (l .word) (bytes "day") || same (l .word) (bytes "daily") || sam
 abbrev pub Counts : (D M : ℕ) → Line → Type 0
 Counts D M l = same (l .word) (bytes "fund") ≡ true → take 2 (l .numbers) ≡ D ∷ M ∷ []
 
--- Change 3: no day's Max EUL is below the one of the day before it, of which the first is `top`; and the last day's, or `top` without days
+-- Change 3: no day's Max EUL is below the one of the day before it, and before the first stands `top`; and the last day's, or `top` without
+-- days
 abbrev pub NeverFall : (top : ℕ) → List DayRead → Type 0
 NeverFall top [] = Unit {0}
 NeverFall top (d ∷ ds) = (top ≤ d .Max) × NeverFall (d .Max) ds
@@ -166,5 +167,5 @@ pub record AsPrinted : Type 0 where
       refusal g call ≡ Clear → ReadAsSummed (step g call) d call
   -- every line of every report
   pub all-decimal : (text : List ℕ) → Every InDecimal (split LF (reportOf text))
-  -- "Each sum equals that of the day's records as printed, and the first equals T."
+  -- "Each sum equals that of the day's records as printed, and the first equals T." The days' Max EULs never fall, and M is the last (Change 3).
   pub days-add-up : (text : List ℕ) → DaysAddUp (membersIn text) 0 0 (reportOf text)

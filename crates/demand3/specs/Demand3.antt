@@ -21,8 +21,8 @@ use Rattle.demand3.specs.Made.{Asked, Made, lent, callOf, MadeOn}
 
 -- "a call is accepted exactly when document 01's register, kept from the calls alone, accepts it, and is otherwise refused by the same
 -- number, with its index in rows 5 and 6. Every figure that an accepted call returns or writes is document 01's, worked from that call's
--- arguments and the register as the call leaves it." So say `answer` and `buffer` in methodology's Register.antt. The period that comes back
--- holds what the register holds, so that a refused call leaves it as it was (demand 1).
+-- arguments and the register as the call leaves it." So say `answer` and `buffer` in methodology's Register.antt, with the requests of
+-- document 02 that are in. The period that comes back holds what the register holds, so that a refused call leaves it as it was (demand 1).
 pub record Agrees (g : Register) (c : Made) : Type 0 where
   pub answer : answerOf (c .reply .outcome) ≡ answer g (callOf (c .asked))
   pub buffer : c .after ≡ buffer g (callOf (c .asked)) (lent (c .asked))

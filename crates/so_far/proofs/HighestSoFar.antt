@@ -2,8 +2,8 @@
 -- answers of every list of calls tell it, since a caller's notes are what the days that the register keeps report. With it the claim is
 -- whole: `highest-so-far`.
 use mathlib.Core.Path.{_≡_, refl, sym, ap, subst, _∙_}
-use mathlib.Core.List.{List, [], _∷_, _++_, map, map-append, flatMap, append-assoc}
-use Prim.Native.Nat.{ℕ, _*_, _≤_, _<_}
+use mathlib.Core.List.{List, [], _∷_, _++_, map, map-append, flatMap}
+use Prim.Native.Nat.{ℕ, _*_, _≤_, _<_, max}
 use native.Mathlib.Omega.{arith}
 use lib.ListN.{length, getD}
 use Rattle.numbers.specs.Lists.{Every}
@@ -25,7 +25,7 @@ use Rattle.fund.proofs.RawCharge.{highest-none}
 use Rattle.period.specs.Reading.{answerOf}
 use Rattle.demand3.specs.Made.{Asked, Made, callOf}
 use Rattle.demand3.specs.Demand3.{Agrees, Holds, registerAfter, Fits64}
-use Rattle.demand3.proofs.EveryList.{holds-from, last-agrees, after-one}
+use Rattle.demand3.proofs.EveryList.{holds-from, last-agrees}
 use Rattle.demand3.proofs.Demand3.{madeOf, demand-3}
 use Rattle.answers.proofs.RefusalRows.{is-clear}
 use Rattle.as_printed.specs.AsPrinted.{registerFed, AcceptedFits}
@@ -134,10 +134,12 @@ of-day cs c d out T Max holds is said =
     let reported : Max ≡ reportedMaxEul o (kept ∷ g .days) = sym (ap (λ (l : List ℕ). getD l 1 0) told) in
     let notes : noted [] cs ≡ reports o (g .days) = noted-are start cs (c ∷ []) holds in
     let M = m-is-the-same o (g .days) in
+    let so-far : Max ≡ max (ownMaxEul o accts) (getD (noted [] cs) 0 0) = rw notes (reported ∙ omega (arith, reported-more o kept (g .days), M .last-reported)) in
     let fit = call-fits cs call clear in
     record {
       Max-is = reported ∙ omega (arith, reported-more o kept (g .days), M .highest-own);
-      so-far = rw notes (reported ∙ omega (arith, reported-more o kept (g .days), M .last-reported));
+      so-far = so-far;
+      first-is-own = λ none. let last : getD (noted [] cs) 0 0 ≡ 0 = rw none refl in omega (arith, so-far);
       at-least-own = rw reported (at-least-own o kept (g .days));
       never-falls = rw (reported, notes) (never-falls o kept (g .days));
       T-is = sym (ap (λ (l : List ℕ). getD l 0 0) told);
@@ -177,18 +179,6 @@ begins-anew cs a rest o holds is clear =
     let said : answerOf (a .reply .outcome) ≡ accepted [] = agreed .answer ∙ rw (is, clear) in
     (subst (λ (g : Register). Holds g rest) left after, noted-more [] cs (a ∷ rest) ∙ rw (said, is))
 
-first-reports-own : (cs : List Made) (a c : Made) (o : Opening) (d : DayInput) (out : List ℕ) (T Max : ℕ)
-    → Holds start (cs ++ (a ∷ c ∷ [])) → a .asked ≡ Asked.opening o → refusal (registerAfter start cs) (Call.opening o) ≡ Clear
-    → c .asked ≡ Asked.day d out → answerOf (c .reply .outcome) ≡ accepted (T ∷ Max ∷ [])
-    → Max ≡ ownMaxEul o (accounts (o .k) d)
-unfolding greatest
-first-reports-own cs a c o d out T Max holds is clear is′ said =
-    let left : registerAfter start (cs ++ (a ∷ [])) ≡ openedBy o = after-one start cs a ∙ rw is (opened-anew (registerAfter start cs) o clear) in
-    let day = of-day (cs ++ (a ∷ [])) c d out T Max (subst (Holds start) (sym (append-assoc cs (a ∷ []) (c ∷ []))) holds) is′ said in
-    let highest-of : Register → ℕ = λ g. greatest (ownMaxEul (g .held) (accounts (g .held .k) d) ∷ owns (g .held) (g .days)) (λ x. x) in
-    let Max-is = subst (λ (g : Register). Max ≡ highest-of g) left (day .Max-is) in
-    omega (arith, Max-is)
-
 -- ---- the claim
 
 pub highest-so-far : HighestSoFar
@@ -202,7 +192,6 @@ highest-so-far =
       day-reports = λ cs c d out T Max made. of-day cs c d out T Max (demand-3 .every-list (cs ++ (c ∷ [])) made);
       closing-returns = λ cs c out D M funds made. of-closing cs c out D M funds (demand-3 .every-list (cs ++ (c ∷ [])) made);
       begins-anew = λ cs a rest o made. begins-anew cs a rest o (demand-3 .every-list (cs ++ (a ∷ rest)) made);
-      first-reports-own = λ cs a c o d out T Max made. first-reports-own cs a c o d out T Max (demand-3 .every-list (cs ++ (a ∷ c ∷ [])) made);
       compiled-day =
           λ 𝓤 H A mem run cs c d out T Max from.
           let holds = demand-3 .compiled-lists 𝓤 H A mem run (cs ++ (c ∷ [])) from in

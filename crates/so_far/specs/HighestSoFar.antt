@@ -1,6 +1,6 @@
 -- Document 02, Change 3: "A day's Max EUL, in the result, the report and the three cent figures, becomes the highest own-day figure from the
--- period's first accepted day to this one. M does not change, and this is to be shown for all periods." `HighestSoFar` is the claim; of the
--- bytes of a report `AsPrinted` says it.
+-- period's first accepted day to this one. M does not change, and this is to be shown for all periods." `HighestSoFar` is the claim. That
+-- the figures in a report never fall, and that the fund's M is the last of them, `AsPrinted` says of its bytes.
 use mathlib.Core.Path.{_≡_}
 use mathlib.Core.List.{List, [], _∷_, _++_, map, flatMap}
 use Prim.Native.Nat.{ℕ, _+_, _*_, _≤_, _<_, max}
@@ -71,11 +71,12 @@ noted notes (c ∷ cs) = noted (noteAnswer (c .asked) (answerOf (c .reply .outco
 pub record DayReports (g : Register) (notes : List ℕ) (d : DayInput) (T Max : ℕ) (out : List ℕ) : Type 0 where
   -- "the highest own-day figure from the period's first accepted day to this one"
   pub Max-is : Max ≡ greatest (ownMaxEul (g .held) (accounts (g .held .k) d) ∷ owns (g .held) (g .days)) (λ x. x)
-  -- which is the greater of its own and of what was reported last; so it is at least its own, and never falls
+  -- which is the greater of its own and of what was reported last; so it is at least its own, never falls, and is its own where nothing was
   pub so-far : Max ≡ max (ownMaxEul (g .held) (accounts (g .held .k) d)) (getD notes 0 0)
+  pub first-is-own : notes ≡ [] → Max ≡ ownMaxEul (g .held) (accounts (g .held .k) d)
   pub at-least-own : ownMaxEul (g .held) (accounts (g .held .k) d) ≤ Max
   pub never-falls : Every (λ x. x ≤ Max) notes
-  -- "T, e and share do not change", and the very Max that is returned is in the three cent figures
+  -- T, e and share are as they were, and the very Max that is returned is in the three cent figures
   pub T-is : T ≡ total (g .held) (accounts (g .held .k) d)
   pub writes : out ≡ flatMap (λ m. five (loss (g .held .k) (accounts (g .held .k) d) m) Max T) (members (g .held .n))
   pub fits : Every Fits64 (T ∷ Max ∷ out)
@@ -104,15 +105,11 @@ pub record HighestSoFar : Type 2 where
       → c .asked ≡ Asked.closing out → answerOf (c .reply .outcome) ≡ accepted (D ∷ M ∷ funds ∷ [])
       → let g = registerAfter start cs in
       MIsTheSame (owns (g .held) (g .days)) (noted [] cs) M
-  -- an accepted opening begins anew: of the calls after it demand 3 holds from a register that knows this opening alone, and notes too
+  -- An accepted opening begins anew: of the calls after it demand 3 holds from a register that knows this opening alone, and what is noted
+  -- then is noted of these calls alone. So the first accepted day reports its own (`first-is-own` in `DayReports`).
   pub begins-anew : (cs : List Made) (a : Made) (rest : List Made) (o : Opening) → MadeOn freshPeriod (cs ++ (a ∷ rest))
       → a .asked ≡ Asked.opening o → refusal (registerAfter start cs) (Call.opening o) ≡ Clear
       → Holds (openedBy o) rest × (noted [] (cs ++ (a ∷ rest)) ≡ noted [] rest)
-  -- so the first day reports its own
-  pub first-reports-own : (cs : List Made) (a c : Made) (o : Opening) (d : DayInput) (out : List ℕ) (T Max : ℕ)
-      → MadeOn freshPeriod (cs ++ (a ∷ c ∷ [])) → a .asked ≡ Asked.opening o → refusal (registerAfter start cs) (Call.opening o) ≡ Clear
-      → c .asked ≡ Asked.day d out → answerOf (c .reply .outcome) ≡ accepted (T ∷ Max ∷ [])
-      → Max ≡ ownMaxEul o (accounts (o .k) d)
   -- every list of compiled calls, as demand 3 has them
   pub compiled-day :
       {R : Type 1} (𝓤 : URA R) (H : Heap 𝓤) (A : Atoms 𝓤) (mem : Memory → SProp 𝓤) (run : Routine → Fun 𝓤)
