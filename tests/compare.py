@@ -3,7 +3,8 @@
 
 Runs PROGRAM on N generated months, and on all of a directory of vectors, and compares what it
 prints byte for byte with the recalculation. Prints how many months there were, how many differ,
-the first that does (saved to a file) and how the reports end. Exits with 1 where any differ.
+the first that does (saved to a file), how many have several accepted days, and how the reports
+end. Exits with 1 where any differ.
 A program that is ended by a signal, or takes a minute, differs too.
 """
 import argparse
@@ -41,13 +42,18 @@ def end_of(report):
     return "fund 0" if report.startswith(b"fund\t0\t") else "fund"
 
 
+def days_of(report):
+    """How many accepted days a report has."""
+    return sum(line.startswith(b"day\t") for line in report.split(b"\n"))
+
+
 def one(task):
-    """Compares one month: its index, how its report should end, and whether it is the same."""
+    """Compares one month: its index, its accepted days, how its report should end, and whether it is the same."""
     program, seed, index = task
     text = months.month(seed, index)
     due = recalculation.report(text)
     printed, wrong = ran(program, text)
-    return index, end_of(due), printed == due and not wrong
+    return index, days_of(due), end_of(due), printed == due and not wrong
 
 
 def vectors_of(directory):
@@ -102,11 +108,12 @@ def main():
                 first = first or (name, text)
         print(f"{len(vectors)} vectors, {differ} different")
 
-    in_vectors, count, ends = differ, 0, Counter()
+    in_vectors, count, several, ends = differ, 0, 0, Counter()
     tasks = ((program, given.seed, index) for index in range(given.months))
     with multiprocessing.Pool(2) as pool:
-        for index, end, same in pool.imap(one, tasks, chunksize=20):
+        for index, days, end, same in pool.imap(one, tasks, chunksize=20):
             count += 1
+            several += days > 1
             ends[end] += 1
             if not same:
                 differ += 1
@@ -114,7 +121,7 @@ def main():
                                   months.month(given.seed, index))
                 if given.stop:
                     break
-    print(f"{count} months, {differ - in_vectors} different")
+    print(f"{count} months, {several} of them with several accepted days, {differ - in_vectors} different")
     for end in ENDS:
         print(f"  {end:10}{ends[end]:7}{100 * ends[end] / max(1, count):7.1f}%")
     if first:
