@@ -139,8 +139,7 @@ pub fn own_max_eul(
     greater(top, rows_greatest(rows))
 }
 
-// A day's own figures, worked from its accounts and what the opening brought alone: losses, T, and `top`, its own
-// Max EUL.
+// A day's own figures, worked from its accounts and what the opening brought alone: losses, T, and `top`, its own Max EUL.
 pub struct Figures {
     pub losses: Losses,
     pub top: u64,

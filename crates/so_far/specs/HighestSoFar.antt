@@ -67,14 +67,18 @@ abbrev pub noted : (notes : List ℕ) → List Made → List ℕ
 noted notes [] = notes
 noted notes (c ∷ cs) = noted (noteAnswer (c .asked) (answerOf (c .reply .outcome)) notes) cs
 
+-- the own Max EUL of a day that brings d
+abbrev pub ownOf : Register → DayInput → ℕ
+ownOf g d = ownMaxEul (g .held) (accounts (g .held .k) d)
+
 -- a day that brought d and was answered by T and Max, and left `out`: g is the register before it, `notes` what was reported before it
 pub record DayReports (g : Register) (notes : List ℕ) (d : DayInput) (T Max : ℕ) (out : List ℕ) : Type 0 where
   -- "the highest own-day figure from the period's first accepted day to this one"
-  pub Max-is : Max ≡ greatest (ownMaxEul (g .held) (accounts (g .held .k) d) ∷ owns (g .held) (g .days)) (λ x. x)
+  pub Max-is : Max ≡ greatest (ownOf g d ∷ owns (g .held) (g .days)) (λ x. x)
   -- which is the greater of its own and of what was reported last; so it is at least its own, never falls, and is its own where nothing was
-  pub so-far : Max ≡ max (ownMaxEul (g .held) (accounts (g .held .k) d)) (getD notes 0 0)
-  pub first-is-own : notes ≡ [] → Max ≡ ownMaxEul (g .held) (accounts (g .held .k) d)
-  pub at-least-own : ownMaxEul (g .held) (accounts (g .held .k) d) ≤ Max
+  pub so-far : Max ≡ max (ownOf g d) (getD notes 0 0)
+  pub first-is-own : notes ≡ [] → Max ≡ ownOf g d
+  pub at-least-own : ownOf g d ≤ Max
   pub never-falls : Every (λ x. x ≤ Max) notes
   -- T, e and share are as they were, and the very Max that is returned is in the three cent figures
   pub T-is : T ≡ total (g .held) (accounts (g .held .k) d)
