@@ -7,7 +7,7 @@ use lib.ListN.{length}
 use Rattle.methodology.specs.declared.Refusal.{Refusal}
 use Rattle.methodology.specs.declared.Refusal.the-variants.{Clear, Row, RowAt}
 use Rattle.methodology.specs.declared.Opening.{Opening}
-use Rattle.methodology.specs.Register.{Call, Register, refusal, accept, ifAccepted, step, returned, written, accepted, answer, buffer}
+use Rattle.methodology.specs.Register.{Call, Register, refusal, accept, ifAccepted, step, returned, written, Answer, accepted, answerBy, answer, buffer}
 use Rattle.methodology.proofs.Passed.{step-clear}
 use Rattle.validation.proofs.OpeningPasses.{opening-leaves}
 use Rattle.period.specs.declared.Period.{Period}
@@ -18,7 +18,7 @@ use Rattle.period.specs.Follows.{Good, Follows}
 use Rattle.period.proofs.Closings.{closable, in-range}
 use Rattle.period.proofs.Simulation.{held-by, closing-row, opening-follows, day-follows, closing-follows}
 use Rattle.demand3.specs.Made.{Asked, Made, callOf, Meets, MadeOn}
-use Rattle.demand3.specs.Demand3.{Agrees, Covers, AtClosing, Holds, registerAfter}
+use Rattle.demand3.specs.Demand3.{Agrees, Covers, AtClosing, Holds, registerAfter, byAnswer, fromAnswers}
 use Rattle.demand3.proofs.Covering.{covers}
 
 -- an opening is lent no buffer
@@ -88,6 +88,30 @@ holds-from g (b ∷ cs) ds (_, _, h) = holds-from (step g (callOf (b .asked))) c
 
 pub last-agrees : (g : Register) (cs : List Made) (c : Made) → Holds g (cs ++ (c ∷ [])) → Agrees (registerAfter g cs) c
 last-agrees g cs c h = holds-from g cs (c ∷ []) h .0
+
+-- What a caller keeps from the answers is what the register gives, if that is so of each accepted call.
+module _ {X : Type 0} (note : Asked → (figures : List ℕ) → X → X) (of : Register → X)
+    (accepted-so : (g : Register) (a : Asked) → note a (returned (accept g (callOf a)) (callOf a)) (of g) ≡ of (accept g (callOf a))) where
+  by-row : (g : Register) (a : Asked) (x : Refusal)
+      → let after = ifAccepted x (accept g (callOf a)) g in
+      byAnswer note a (answerBy x (returned after (callOf a))) (of g) ≡ of after
+  by-row g a Clear = accepted-so g a
+  by-row g a (Row number) = refl
+  by-row g a (RowAt number index) = refl
+
+  by-one : (g : Register) (c : Made) → Agrees g c → byAnswer note (c .asked) (answerOf (c .reply .outcome)) (of g) ≡ of (step g (callOf (c .asked)))
+  unfolding step answer
+  by-one g c agreed = ap (λ (a : Answer). byAnswer note (c .asked) a (of g)) (agreed .answer) ∙ by-row g (c .asked) (refusal g (callOf (c .asked)))
+
+  pub from-answers : (g : Register) (cs ds : List Made) → Holds g (cs ++ ds) → fromAnswers note (of g) cs ≡ of (registerAfter g cs)
+  from-answers g [] ds h = refl
+  from-answers g (c ∷ cs) ds (agreed, _, h) =
+      ap (λ (x : X). fromAnswers note x cs) (by-one g c agreed) ∙ from-answers (step g (callOf (c .asked))) cs ds h
+
+pub from-answers-more : {X : Type 0} (note : Asked → (figures : List ℕ) → X → X) (x : X) (cs ds : List Made)
+    → fromAnswers note x (cs ++ ds) ≡ fromAnswers note (fromAnswers note x cs) ds
+from-answers-more note x [] ds = refl
+from-answers-more note x (c ∷ cs) ds = from-answers-more note (byAnswer note (c .asked) (answerOf (c .reply .outcome)) x) cs ds
 
 pub after-one : (g : Register) (cs : List Made) (a : Made) → registerAfter g (cs ++ (a ∷ [])) ≡ step (registerAfter g cs) (callOf (a .asked))
 after-one g [] a = refl

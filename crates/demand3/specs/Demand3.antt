@@ -81,6 +81,16 @@ abbrev pub registerAfter : Register → List Made → Register
 registerAfter g [] = g
 registerAfter g (c ∷ cs) = registerAfter (step g (callOf (c .asked))) cs
 
+-- What a caller keeps from the answers alone: `note` takes in what an accepted call returned, and a refused call changes nothing.
+abbrev pub byAnswer : {X : Type 0} → (note : Asked → (figures : List ℕ) → X → X) → Asked → Answer → X → X
+byAnswer note asked (accepted figures) x = note asked figures x
+byAnswer note asked (refused number) x = x
+byAnswer note asked (refusedAt number index) x = x
+
+abbrev pub fromAnswers : {X : Type 0} → (note : Asked → (figures : List ℕ) → X → X) → X → List Made → X
+fromAnswers note x [] = x
+fromAnswers note x (c ∷ cs) = fromAnswers note (byAnswer note (c .asked) (answerOf (c .reply .outcome)) x) cs
+
 -- ---- that it is not about nothing
 
 abbrev pub Fits64 : ℕ → Type 0

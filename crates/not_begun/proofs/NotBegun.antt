@@ -11,13 +11,12 @@ use Rattle.numbers.proofs.Lists.{_∈_, range-length, mem-range, map-eq}
 use Rattle.numbers.proofs.Rows.{flatMap-map}
 use Rattle.numbers.proofs.Sums.{Σ-const}
 use Rattle.methodology.specs.declared.Status.the-variants.{Open}
-use Rattle.methodology.specs.declared.Refusal.{Refusal}
-use Rattle.methodology.specs.declared.Refusal.the-variants.{Clear, Row, RowAt}
+use Rattle.methodology.specs.declared.Refusal.the-variants.{Clear}
 use Rattle.methodology.specs.declared.Opening.{Opening}
 use Rattle.methodology.specs.Account.{members}
 use Rattle.methodology.specs.Contribution.{charge, raw, funded, unfunded, three, contributions, totalFunded}
 use Rattle.methodology.specs.Refusals.{badOpening}
-use Rattle.methodology.specs.Register.{Call, Register, start, refusal, accept, ifAccepted, step, returned, written, Answer, accepted, answerBy, answer, buffer}
+use Rattle.methodology.specs.Register.{Call, Register, start, refusal, accept, step, returned, written, accepted, answer, buffer}
 use Rattle.methodology.specs.Text.{bytes, printed, stretch, rows, refusedLine, fundLines, closed, reportOf}
 use Rattle.methodology.proofs.Passed.{step-clear, opened-anew}
 use Rattle.methodology.proofs.Splits.{nothing-after, something-after}
@@ -27,12 +26,12 @@ use Rattle.period.specs.Reading.{answerOf}
 use Rattle.period.specs.Registered.{periodOf}
 use Rattle.period.specs.Calls.{freshPeriod}
 use Rattle.demand3.specs.Made.{Asked, Made, callOf, MadeOn}
-use Rattle.demand3.specs.Demand3.{Agrees, Holds, registerAfter}
-use Rattle.demand3.proofs.EveryList.{last-agrees, after-one}
+use Rattle.demand3.specs.Demand3.{Holds, registerAfter}
+use Rattle.demand3.proofs.EveryList.{last-agrees, after-one, from-answers}
 use Rattle.demand3.proofs.Demand3.{madeOf, demand-3}
 use Rattle.answers.proofs.RefusalRows.{is-clear}
 use Rattle.as_printed.proofs.DaySums.{stretch-is}
-use Rattle.not_begun.specs.NotBegun.{NoAcceptedDay, AsNotBegun, closedFrom, ClosedAt, afterAnswer, daysAnswered, textOf, fundOf, NotBegun}
+use Rattle.not_begun.specs.NotBegun.{NoAcceptedDay, AsNotBegun, closedFrom, ClosedAt, afterAccepted, daysAnswered, textOf, fundOf, NotBegun}
 use Rattle.not_begun.proofs.MonthText.{clear, to-the-end}
 
 -- ---- the figures
@@ -97,29 +96,15 @@ at-once cs a c o out made is e is′ long =
 
 -- ---- D
 
-counted : (g : Register) (a : Asked) (x : Refusal) (figures : List ℕ)
-    → length (ifAccepted x (accept g (callOf a)) g .days) ≡ afterAnswer a (answerBy x figures) (length (g .days))
-unfolding accept
-counted g (Asked.opening o) Clear figures = refl
-counted g (Asked.day d out) Clear figures = omega arith
-counted g (Asked.closing out) Clear figures = refl
-counted g a (Row number) figures = refl
-counted g a (RowAt number index) figures = refl
-
 -- the register keeps as many days as were answered as accepted
-one-counted : (g : Register) (c : Made) → Agrees g c
-    → length (step g (callOf (c .asked)) .days) ≡ afterAnswer (c .asked) (answerOf (c .reply .outcome)) (length (g .days))
-unfolding step answer
-one-counted g c agreed =
-    counted g (c .asked) (refusal g (callOf (c .asked))) _ ∙ ap (λ (a : Answer). afterAnswer (c .asked) a (length (g .days))) (sym (agreed .answer))
-
-all-counted : (g : Register) (cs : List Made) (c : Made) → Holds g (cs ++ (c ∷ [])) → length (registerAfter g cs .days) ≡ daysAnswered (length (g .days)) cs
-all-counted g [] c h = refl
-all-counted g (b ∷ cs) c (agreed, _, h) =
-    all-counted (step g (callOf (b .asked))) cs c h ∙ ap (λ (D : ℕ). daysAnswered D cs) (one-counted g b agreed)
+counted : (g : Register) (a : Asked) → afterAccepted a (returned (accept g (callOf a)) (callOf a)) (length (g .days)) ≡ length (accept g (callOf a) .days)
+unfolding accept
+counted g (Asked.opening o) = refl
+counted g (Asked.day d out) = omega arith
+counted g (Asked.closing out) = refl
 
 D-shows : (cs : List Made) (c : Made) (out figures : List ℕ) → Holds start (cs ++ (c ∷ [])) → c .asked ≡ Asked.closing out
-    → answerOf (c .reply .outcome) ≡ accepted figures → take 1 figures ≡ daysAnswered 0 cs ∷ []
+    → answerOf (c .reply .outcome) ≡ accepted figures → take 1 figures ≡ daysAnswered cs ∷ []
 unfolding answer returned accept
 D-shows cs c out figures holds is said =
     let g = registerAfter start cs in
@@ -127,7 +112,8 @@ D-shows cs c out figures holds is said =
     let answered : answer g k ≡ accepted figures = rw is at (sym (last-agrees start cs c holds .answer) ∙ said) in
     let (clear, same) = is-clear (refusal g k) _ figures answered in
     let kept = ap (λ (x : Register). length (x .days) ∷ []) (step-clear g k clear) in
-    ap (take 1) (sym same) ∙ kept ∙ ap (λ (D : ℕ). D ∷ []) (all-counted start cs c holds)
+    ap (take 1) (sym same) ∙ kept
+    ∙ ap (λ (D : ℕ). D ∷ []) (sym (from-answers afterAccepted (λ g. length (g .days)) counted start cs (c ∷ []) holds))
 
 -- ---- texts
 

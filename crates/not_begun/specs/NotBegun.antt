@@ -20,13 +20,13 @@ use Rattle.methodology.specs.Account.{members}
 use Rattle.methodology.specs.Day.{groupNumber}
 use Rattle.methodology.specs.Contribution.{highest, raw, exactCharge}
 use Rattle.methodology.specs.Refusals.{badOpening}
-use Rattle.methodology.specs.Register.{Call, Register, start, refusal, step, Answer, accepted, refused, refusedAt, answer, buffer}
+use Rattle.methodology.specs.Register.{Call, Register, start, refusal, step, Answer, accepted, answer, buffer}
 use Rattle.methodology.specs.Text.{bytes, printed, refusedLine, reportOf}
 use Rattle.period.specs.Reading.{answerOf}
 use Rattle.period.specs.Registered.{periodOf}
 use Rattle.period.specs.Calls.{freshPeriod}
 use Rattle.demand3.specs.Made.{Asked, Made, MadeOn}
-use Rattle.demand3.specs.Demand3.{registerAfter}
+use Rattle.demand3.specs.Demand3.{registerAfter, fromAnswers}
 use Rattle.demand3.proofs.Demand3.{Called, madeOf, FromFresh}
 
 -- ---- a closing
@@ -53,19 +53,13 @@ pub record ClosedAt (g : Register) (c : Made) : Type 0 where
 -- ---- D
 
 -- D as a caller counts it from answers alone: 0 after an accepted opening, and 1 more after each accepted day
-abbrev pub afterAccepted : Asked → (D : ℕ) → ℕ
-afterAccepted (Asked.opening o) D = 0
-afterAccepted (Asked.day d out) D = D + 1
-afterAccepted (Asked.closing out) D = D
+abbrev pub afterAccepted : Asked → (figures : List ℕ) → (D : ℕ) → ℕ
+afterAccepted (Asked.opening o) figures D = 0
+afterAccepted (Asked.day d out) figures D = D + 1
+afterAccepted (Asked.closing out) figures D = D
 
-abbrev pub afterAnswer : Asked → Answer → (D : ℕ) → ℕ
-afterAnswer asked (accepted figures) D = afterAccepted asked D
-afterAnswer asked (refused number) D = D
-afterAnswer asked (refusedAt number index) D = D
-
-abbrev pub daysAnswered : (D : ℕ) → List Made → ℕ
-daysAnswered D [] = D
-daysAnswered D (c ∷ cs) = daysAnswered (afterAnswer (c .asked) (answerOf (c .reply .outcome)) D) cs
+abbrev pub daysAnswered : List Made → ℕ
+daysAnswered cs = fromAnswers afterAccepted 0 cs
 
 -- ---- a text
 
@@ -108,7 +102,7 @@ pub record NotBegun : Type 2 where
       NoAcceptedDay g → length out ≡ 3 * g .held .n → ClosedAt g (madeOf c)
   -- "a day call that leaves the period alone now shows in D": the D of every closing counts the days that were answered as accepted
   pub D-shows : (cs : List Made) (c : Made) (out figures : List ℕ) → MadeOn freshPeriod (cs ++ (c ∷ [])) → c .asked ≡ Asked.closing out
-      → answerOf (c .reply .outcome) ≡ accepted figures → take 1 figures ≡ daysAnswered 0 cs ∷ []
+      → answerOf (c .reply .outcome) ≡ accepted figures → take 1 figures ≡ daysAnswered cs ∷ []
   -- every text of period, members and end; with anything after it the next line is refused by 9, "before the closing call", as in any month
   pub report : (o : Opening) → badOpening o ≡ false → reportOf (textOf o) ≡ fundOf (o .n)
   pub report-after : (o : Opening) (rest : List ℕ) → badOpening o ≡ false → 0 < length rest → reportOf (textOf o ++ rest) ≡ refusedLine 9 (o .n + 3)

@@ -11,26 +11,25 @@ use Rattle.numbers.specs.Sums.{greatest}
 use Rattle.numbers.specs.Rounding.{roundDiv}
 use Rattle.numbers.proofs.Rounding.{round-above, round-below}
 use Rattle.numbers.proofs.Sums.{greatest-map}
-use Rattle.methodology.specs.declared.Refusal.{Refusal}
-use Rattle.methodology.specs.declared.Refusal.the-variants.{Clear, Row, RowAt}
+use Rattle.methodology.specs.declared.Refusal.the-variants.{Clear}
 use Rattle.methodology.specs.declared.Opening.{Opening}
 use Rattle.methodology.specs.Account.{DayInput, members, accounts}
 use Rattle.methodology.specs.Member.{loss}
 use Rattle.methodology.specs.Day.{total, ownMaxEul, value, reserve, estimate, five, dailies}
 use Rattle.methodology.specs.Contribution.{KeptDay, reportedMaxEul, highest}
-use Rattle.methodology.specs.Register.{Call, Register, start, refusal, accept, ifAccepted, step, returned, written, Answer, accepted, answerBy, answer, buffer}
+use Rattle.methodology.specs.Register.{Call, Register, start, refusal, accept, step, returned, written, accepted, answer, buffer}
 use Rattle.methodology.proofs.Passed.{step-clear, opened-anew}
 use Rattle.methodology.proofs.SoFar.{reported-is-M, reported-more}
 use Rattle.fund.proofs.RawCharge.{highest-none}
 use Rattle.period.specs.Reading.{answerOf}
 use Rattle.demand3.specs.Made.{Asked, Made, callOf}
-use Rattle.demand3.specs.Demand3.{Agrees, Holds, registerAfter, Fits64}
-use Rattle.demand3.proofs.EveryList.{holds-from, last-agrees}
+use Rattle.demand3.specs.Demand3.{Holds, registerAfter, Fits64}
+use Rattle.demand3.proofs.EveryList.{holds-from, last-agrees, from-answers, from-answers-more}
 use Rattle.demand3.proofs.Demand3.{madeOf, demand-3}
 use Rattle.answers.proofs.RefusalRows.{is-clear}
 use Rattle.as_printed.specs.AsPrinted.{registerFed, AcceptedFits}
 use Rattle.as_printed.proofs.EveryReport.{as-printed}
-use Rattle.so_far.specs.HighestSoFar.{owns, reports, MIsTheSame, Nearest, noteAnswer, noted, DayReports, openedBy, HighestSoFar}
+use Rattle.so_far.specs.HighestSoFar.{owns, reports, MIsTheSame, Nearest, noteAccepted, noted, DayReports, openedBy, HighestSoFar}
 
 -- ---- days
 
@@ -76,33 +75,17 @@ cents e Max T positive =
 
 -- ---- a caller's notes
 
-one-noted-by : (g : Register) (a : Asked) (x : Refusal)
-    → let after = ifAccepted x (accept g (callOf a)) g in
-    noteAnswer a (answerBy x (returned after (callOf a))) (reports (g .held) (g .days)) ≡ reports (after .held) (after .days)
-unfolding accept returned
-one-noted-by g (Asked.opening o) Clear = refl
-one-noted-by g (Asked.day d out) Clear = refl
-one-noted-by g (Asked.closing out) Clear = refl
-one-noted-by g a (Row number) = refl
-one-noted-by g a (RowAt number index) = refl
-
-one-noted : (g : Register) (c : Made) → Agrees g c
-    → let after = step g (callOf (c .asked)) in
-    noteAnswer (c .asked) (answerOf (c .reply .outcome)) (reports (g .held) (g .days)) ≡ reports (after .held) (after .days)
-unfolding step answer
-one-noted g c agreed =
-    ap (λ (a : Answer). noteAnswer (c .asked) a (reports (g .held) (g .days))) (agreed .answer) ∙ one-noted-by g (c .asked) (refusal g (callOf (c .asked)))
-
 -- they are what the days that the register keeps report
-noted-are : (g : Register) (cs ds : List Made) → Holds g (cs ++ ds)
-    → noted (reports (g .held) (g .days)) cs ≡ reports (registerAfter g cs .held) (registerAfter g cs .days)
-noted-are g [] ds h = refl
-noted-are g (c ∷ cs) ds (agreed, _, h) =
-    ap (λ (notes : List ℕ). noted notes cs) (one-noted g c agreed) ∙ noted-are (step g (callOf (c .asked))) cs ds h
+accepted-noted : (g : Register) (a : Asked)
+    → let after = accept g (callOf a) in
+    noteAccepted a (returned after (callOf a)) (reports (g .held) (g .days)) ≡ reports (after .held) (after .days)
+unfolding accept returned
+accepted-noted g (Asked.opening o) = refl
+accepted-noted g (Asked.day d out) = refl
+accepted-noted g (Asked.closing out) = refl
 
-noted-more : (notes : List ℕ) (cs ds : List Made) → noted notes (cs ++ ds) ≡ noted (noted notes cs) ds
-noted-more notes [] ds = refl
-noted-more notes (c ∷ cs) ds = noted-more (noteAnswer (c .asked) (answerOf (c .reply .outcome)) notes) cs ds
+noted-are : (cs ds : List Made) → Holds start (cs ++ ds) → noted cs ≡ reports (registerAfter start cs .held) (registerAfter start cs .days)
+noted-are = from-answers noteAccepted (λ g. reports (g .held) (g .days)) accepted-noted start
 
 -- ---- the last call of a list of which demand 3 holds
 
@@ -117,7 +100,7 @@ call-fits cs call =
 
 of-day : (cs : List Made) (c : Made) (d : DayInput) (out : List ℕ) (T Max : ℕ) → Holds start (cs ++ (c ∷ []))
     → c .asked ≡ Asked.day d out → answerOf (c .reply .outcome) ≡ accepted (T ∷ Max ∷ [])
-    → DayReports (registerAfter start cs) (noted [] cs) d T Max (c .after)
+    → DayReports (registerAfter start cs) (noted cs) d T Max (c .after)
 unfolding answer buffer accept returned written dailies greatest
 of-day cs c d out T Max holds is said =
     let g = registerAfter start cs in
@@ -132,14 +115,14 @@ of-day cs c d out T Max holds is said =
     let told : total o accts ∷ reportedMaxEul o (kept ∷ g .days) ∷ [] ≡ T ∷ Max ∷ [] = ap (λ (x : Register). returned x call) (sym left) ∙ same in
     let wrote : c .after ≡ written (step g call) call = agreed .buffer ∙ rw (is, clear) in
     let reported : Max ≡ reportedMaxEul o (kept ∷ g .days) = sym (ap (λ (l : List ℕ). getD l 1 0) told) in
-    let notes : noted [] cs ≡ reports o (g .days) = noted-are start cs (c ∷ []) holds in
+    let notes : noted cs ≡ reports o (g .days) = noted-are cs (c ∷ []) holds in
     let M = m-is-the-same o (g .days) in
-    let so-far : Max ≡ max (ownMaxEul o accts) (getD (noted [] cs) 0 0) = rw notes (reported ∙ omega (arith, reported-more o kept (g .days), M .last-reported)) in
+    let so-far : Max ≡ max (ownMaxEul o accts) (getD (noted cs) 0 0) = rw notes (reported ∙ omega (arith, reported-more o kept (g .days), M .last-reported)) in
     let fit = call-fits cs call clear in
     record {
       Max-is = reported ∙ omega (arith, reported-more o kept (g .days), M .highest-own);
       so-far = so-far;
-      first-is-own = λ none. let last : getD (noted [] cs) 0 0 ≡ 0 = rw none refl in omega (arith, so-far);
+      first-is-own = λ none. let last : getD (noted cs) 0 0 ≡ 0 = rw none refl in omega (arith, so-far);
       at-least-own = rw reported (at-least-own o kept (g .days));
       never-falls = rw (reported, notes) (never-falls o kept (g .days));
       T-is = sym (ap (λ (l : List ℕ). getD l 0 0) told);
@@ -153,7 +136,7 @@ of-day cs c d out T Max holds is said =
 
 of-closing : (cs : List Made) (c : Made) (out : List ℕ) (D M funds : ℕ) → Holds start (cs ++ (c ∷ []))
     → c .asked ≡ Asked.closing out → answerOf (c .reply .outcome) ≡ accepted (D ∷ M ∷ funds ∷ [])
-    → MIsTheSame (owns (registerAfter start cs .held) (registerAfter start cs .days)) (noted [] cs) M
+    → MIsTheSame (owns (registerAfter start cs .held) (registerAfter start cs .days)) (noted cs) M
 unfolding answer accept returned
 of-closing cs c out D M funds holds is said =
     let g = registerAfter start cs in
@@ -162,22 +145,22 @@ of-closing cs c out D M funds holds is said =
     let (clear, same) = is-clear (refusal g call) _ _ answered in
     let kept = ap (λ (x : Register). highest (x .held) (x .days)) (step-clear g call clear) in
     let M-is : highest (g .held) (g .days) ≡ M = sym kept ∙ ap (λ (l : List ℕ). getD l 1 0) same in
-    let notes = sym (noted-are start cs (c ∷ []) holds) in
-    subst (MIsTheSame (owns (g .held) (g .days)) (noted [] cs)) M-is
+    let notes = sym (noted-are cs (c ∷ []) holds) in
+    subst (MIsTheSame (owns (g .held) (g .days)) (noted cs)) M-is
     (subst (λ (notes : List ℕ). MIsTheSame (owns (g .held) (g .days)) notes (highest (g .held) (g .days))) notes (m-is-the-same (g .held) (g .days)))
 
 -- ---- an accepted opening
 
 begins-anew : (cs : List Made) (a : Made) (rest : List Made) (o : Opening) → Holds start (cs ++ (a ∷ rest))
     → a .asked ≡ Asked.opening o → refusal (registerAfter start cs) (Call.opening o) ≡ Clear
-    → Holds (openedBy o) rest × (noted [] (cs ++ (a ∷ rest)) ≡ noted [] rest)
+    → Holds (openedBy o) rest × (noted (cs ++ (a ∷ rest)) ≡ noted rest)
 unfolding answer returned
 begins-anew cs a rest o holds is clear =
     let g = registerAfter start cs in
     let (agreed, _, after) = holds-from start cs (a ∷ rest) holds in
     let left : step g (callOf (a .asked)) ≡ openedBy o = rw is (opened-anew g o clear) in
     let said : answerOf (a .reply .outcome) ≡ accepted [] = agreed .answer ∙ rw (is, clear) in
-    (subst (λ (g : Register). Holds g rest) left after, noted-more [] cs (a ∷ rest) ∙ rw (said, is))
+    (subst (λ (g : Register). Holds g rest) left after, from-answers-more noteAccepted [] cs (a ∷ rest) ∙ rw (said, is))
 
 -- ---- the claim
 

@@ -21,11 +21,11 @@ use Rattle.methodology.specs.Account.{DayInput, members, accounts}
 use Rattle.methodology.specs.Member.{loss}
 use Rattle.methodology.specs.Day.{total, ownMaxEul, value, reserve, estimate, five}
 use Rattle.methodology.specs.Contribution.{KeptDay, reportedMaxEul, highest}
-use Rattle.methodology.specs.Register.{Call, Register, start, refusal, Answer, accepted, refused, refusedAt}
+use Rattle.methodology.specs.Register.{Call, Register, start, refusal, accepted}
 use Rattle.period.specs.Reading.{answerOf}
 use Rattle.period.specs.Calls.{freshPeriod}
 use Rattle.demand3.specs.Made.{Asked, Made, MadeOn}
-use Rattle.demand3.specs.Demand3.{Holds, registerAfter, Fits64}
+use Rattle.demand3.specs.Demand3.{Holds, registerAfter, fromAnswers, Fits64}
 use Rattle.demand3.proofs.Demand3.{Called, madeOf, FromFresh}
 
 -- ---- days
@@ -58,14 +58,8 @@ noteAccepted (Asked.opening o) figures notes = []
 noteAccepted (Asked.day d out) figures notes = getD figures 1 0 ∷ notes
 noteAccepted (Asked.closing out) figures notes = notes
 
-abbrev pub noteAnswer : Asked → Answer → (notes : List ℕ) → List ℕ
-noteAnswer asked (accepted figures) notes = noteAccepted asked figures notes
-noteAnswer asked (refused number) notes = notes
-noteAnswer asked (refusedAt number index) notes = notes
-
-abbrev pub noted : (notes : List ℕ) → List Made → List ℕ
-noted notes [] = notes
-noted notes (c ∷ cs) = noted (noteAnswer (c .asked) (answerOf (c .reply .outcome)) notes) cs
+abbrev pub noted : List Made → List ℕ
+noted cs = fromAnswers noteAccepted [] cs
 
 -- the own Max EUL of a day that brings d
 abbrev pub ownOf : Register → DayInput → ℕ
@@ -103,26 +97,26 @@ pub record HighestSoFar : Type 2 where
   -- every accepted day of every list of calls
   pub day-reports : (cs : List Made) (c : Made) (d : DayInput) (out : List ℕ) (T Max : ℕ) → MadeOn freshPeriod (cs ++ (c ∷ []))
       → c .asked ≡ Asked.day d out → answerOf (c .reply .outcome) ≡ accepted (T ∷ Max ∷ [])
-      → DayReports (registerAfter start cs) (noted [] cs) d T Max (c .after)
+      → DayReports (registerAfter start cs) (noted cs) d T Max (c .after)
   -- and every accepted closing: "M does not change"
   pub closing-returns : (cs : List Made) (c : Made) (out : List ℕ) (D M funds : ℕ) → MadeOn freshPeriod (cs ++ (c ∷ []))
       → c .asked ≡ Asked.closing out → answerOf (c .reply .outcome) ≡ accepted (D ∷ M ∷ funds ∷ [])
       → let g = registerAfter start cs in
-      MIsTheSame (owns (g .held) (g .days)) (noted [] cs) M
+      MIsTheSame (owns (g .held) (g .days)) (noted cs) M
   -- An accepted opening begins anew: of the calls after it demand 3 holds from a register that knows this opening alone, and what is noted
   -- then is noted of these calls alone. So the first accepted day reports its own (`first-is-own` in `DayReports`).
   pub begins-anew : (cs : List Made) (a : Made) (rest : List Made) (o : Opening) → MadeOn freshPeriod (cs ++ (a ∷ rest))
       → a .asked ≡ Asked.opening o → refusal (registerAfter start cs) (Call.opening o) ≡ Clear
-      → Holds (openedBy o) rest × (noted [] (cs ++ (a ∷ rest)) ≡ noted [] rest)
+      → Holds (openedBy o) rest × (noted (cs ++ (a ∷ rest)) ≡ noted rest)
   -- every list of compiled calls, as demand 3 has them
   pub compiled-day :
       {R : Type 1} (𝓤 : URA R) (H : Heap 𝓤) (A : Atoms 𝓤) (mem : Memory → SProp 𝓤) (run : Routine → Fun 𝓤)
       (cs : List Called) (c : Called) (d : DayInput) (out : List ℕ) (T Max : ℕ) → FromFresh 𝓤 H A mem run (cs ++ (c ∷ []))
       → madeOf c .asked ≡ Asked.day d out → answerOf (madeOf c .reply .outcome) ≡ accepted (T ∷ Max ∷ [])
-      → DayReports (registerAfter start (map madeOf cs)) (noted [] (map madeOf cs)) d T Max (madeOf c .after)
+      → DayReports (registerAfter start (map madeOf cs)) (noted (map madeOf cs)) d T Max (madeOf c .after)
   pub compiled-closing :
       {R : Type 1} (𝓤 : URA R) (H : Heap 𝓤) (A : Atoms 𝓤) (mem : Memory → SProp 𝓤) (run : Routine → Fun 𝓤)
       (cs : List Called) (c : Called) (out : List ℕ) (D M funds : ℕ) → FromFresh 𝓤 H A mem run (cs ++ (c ∷ []))
       → madeOf c .asked ≡ Asked.closing out → answerOf (madeOf c .reply .outcome) ≡ accepted (D ∷ M ∷ funds ∷ [])
       → let g = registerAfter start (map madeOf cs) in
-      MIsTheSame (owns (g .held) (g .days)) (noted [] (map madeOf cs)) M
+      MIsTheSame (owns (g .held) (g .days)) (noted (map madeOf cs)) M
