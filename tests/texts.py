@@ -503,7 +503,7 @@ SO_FAR = [
     ("a loss of 7 beside a large one that falls from day to day", stored("so-far-14")),
     ("four members of one group, days of 2 dollars, of millions and of 1; 5 on a fourth", stored("so-far-15")),
     ("one member: Max EULs of 1, 4 and 2", stored("so-far-16")),
-    ("four members of one group, the highest on the second day and a higher one on the fourth", stored("so-far-17")),
+    ("four members of one group: a high second day, and a higher fourth", stored("so-far-17")),
     ("a day of one dollar after one of millions of millions; 6 on a third", stored("so-far-18")),
     ("four members, the highest on the first of three days", stored("so-far-19")),
     ("a group of one member, two scenarios, the second day below the first", stored("so-far-20")),

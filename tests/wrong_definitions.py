@@ -125,6 +125,8 @@ Contribution.unfunded | 2 * funded rawCharge | funded (2 * rawCharge)
 Day.total | Σ (members (o .n)) | Σ (members (o .n - 1))
 Day.ownMaxEul | λ j. memberUnder accts m j ⁺ | λ j. groupSum o accts m j ⁺
 Day.ownMaxEul | (greatest (members (o .n)) (λ m. greatest (scenarios (o .k)) (λ j. memberUnder accts m j ⁺))) | (greatest (members (o .n)) (loss (o .k) accts))
+Day.ownMaxEul | (greatest (members (o .n)) (λ m. greatest (scenarios (o .k)) (λ j. memberUnder accts m j ⁺)))⏎(greatest (members (o .n)) (λ m. greatest (scenarios (o .k)) | (greatest (members (o .n)) (λ m. greatest (keep (λ j. not (eqb j 7)) (scenarios (o .k))) (λ j. memberUnder accts m j ⁺)))⏎(greatest (members (o .n)) (λ m. greatest (keep (λ j. not (eqb j 7)) (scenarios (o .k)))
+Day.ownMaxEul | (greatest (members (o .n)) (λ m. greatest (scenarios (o .k)) (λ j. memberUnder accts m j ⁺)))⏎(greatest (members (o .n)) (λ m. greatest (scenarios (o .k)) | (greatest (members (o .n)) (λ m. greatest (keep (λ j. not (eqb j 15)) (scenarios (o .k))) (λ j. memberUnder accts m j ⁺)))⏎(greatest (members (o .n)) (λ m. greatest (keep (λ j. not (eqb j 15)) (scenarios (o .k)))
 Day.groupOf | cond (eqb (groupNumber o m) 0) (m ∷ []) | cond (eqb (groupNumber o m) 32) (m ∷ [])
 Day.groupOf | cond (eqb (groupNumber o m) 0) (m ∷ []) | cond (leb (groupNumber o m) 1) (m ∷ [])
 Day.groupSum | memberUnder accts m′ j) | pos (memberUnder accts m′ j ⁺))

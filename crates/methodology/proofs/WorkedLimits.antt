@@ -2,7 +2,7 @@
 -- computation; the figures are those of a recalculation of its own from the documents.
 use mathlib.Core.Path.{_≡_, refl}
 use mathlib.Core.List.{List, [], _∷_, _++_, map, flatMap}
-use Prim.Native.Nat.{ℕ, _-_}
+use Prim.Native.Nat.{ℕ, _-_, _*_}
 use lib.IntN.{pos}
 use lib.ListN.{replicate}
 use Rattle.numbers.specs.Lists.{range}
@@ -48,17 +48,17 @@ under-16 =
 abbrev under-1 : List Line
 under-1 = acct 1 0 H (pos 5) 0 0 (pos 2 ∷ replicate 15 (pos 5)) ∷ acct 2 0 H (pos 9) 0 0 (pos 5 ∷ replicate 15 (pos 9)) ∷ []
 
--- Each of 16 scenarios alone: on day j a loss of 3 hangs on scenario j.
+-- Each of 16 scenarios alone: on day j a loss of j hangs on scenario j, so that each day has the highest Max EUL so far.
 abbrev one-by-one : List Exchange
 one-by-one =
     brings 1 16 (0 ∷ []) gets accepted []
     ∷ map
     (λ j.
-    day (dayOf j (acct 1 0 H (pos 5) 0 0 (replicate (j - 1) (pos 5) ++ (pos 2 ∷ replicate (16 - j) (pos 5))) ∷ [])) 5
-    gets accepted (3 ∷ 3 ∷ [])
-    writing (3 ∷ 1000000000000 ∷ 300 ∷ 330 ∷ 660 ∷ []))
+    day (dayOf j (acct 1 0 H (pos 20) 0 0 (replicate (j - 1) (pos 20) ++ (pos (20 - j) ∷ replicate (16 - j) (pos 20))) ∷ [])) 5
+    gets accepted (j ∷ j ∷ [])
+    writing (j ∷ 1000000000000 ∷ 100 * j ∷ 110 * j ∷ 220 * j ∷ []))
     (range 1 16)
-    ++ (closing 3 gets accepted (16 ∷ 3 ∷ 50000000 ∷ []) writing (4 ∷ 50000000 ∷ 100000000 ∷ []) ∷ [])
+    ++ (closing 3 gets accepted (16 ∷ 16 ∷ 50000000 ∷ []) writing (18 ∷ 50000000 ∷ 100000000 ∷ []) ∷ [])
 
 -- row 6 of each of 16 stresses
 abbrev stress-outside : List Exchange

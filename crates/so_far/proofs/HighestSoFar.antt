@@ -5,7 +5,9 @@ use mathlib.Core.Path.{_≡_, refl, sym, ap, subst, _∙_}
 use mathlib.Core.List.{List, [], _∷_, _++_, map, map-append, flatMap}
 use Prim.Native.Nat.{ℕ, _*_, _≤_, _<_, max}
 use native.Mathlib.Omega.{arith}
+use lib.Dec.{eqb}
 use lib.ListN.{length, getD}
+use borrow.Author.Tests.{eqb-false}
 use Rattle.numbers.specs.Lists.{Every}
 use Rattle.numbers.specs.Sums.{greatest}
 use Rattle.numbers.specs.Rounding.{roundDiv}
@@ -17,8 +19,9 @@ use Rattle.methodology.specs.Account.{DayInput, members, accounts}
 use Rattle.methodology.specs.Member.{loss}
 use Rattle.methodology.specs.Day.{total, ownMaxEul, value, reserve, estimate, five, dailies}
 use Rattle.methodology.specs.Contribution.{KeptDay, reportedMaxEul, highest}
+use Rattle.methodology.specs.Refusals.{dayRefusal}
 use Rattle.methodology.specs.Register.{Call, Register, start, refusal, accept, step, returned, written, accepted, answer, buffer}
-use Rattle.methodology.proofs.Passed.{step-clear, opened-anew}
+use Rattle.methodology.proofs.Passed.{passed, passed-rows, step-clear, opened-anew}
 use Rattle.methodology.proofs.SoFar.{reported-is-M, reported-more}
 use Rattle.fund.proofs.RawCharge.{highest-none}
 use Rattle.period.specs.Reading.{answerOf}
@@ -98,6 +101,16 @@ call-fits cs call =
     subst (λ (g : Register). refusal g call ≡ Clear → AcceptedFits (step g call) call) (fed start cs)
     (as-printed .accepted-fits (map (λ c. callOf (c .asked)) cs) call)
 
+-- row 7 leaves a loss
+some-loss : (g : Register) (d : DayInput) (room : ℕ) → refusal g (Call.day d room) ≡ Clear → 0 < total (g .held) (accounts (g .held .k) d)
+unfolding refusal dayRefusal
+some-loss g d room clear =
+    let T = total (g .held) (accounts (g .held .k) d) in
+    let (_, last) = passed-rows _ _ clear in
+    let (some, _) = passed 7 (eqb T 0) Clear last in
+    let not-0 = eqb-false T 0 some in
+    omega arith
+
 of-day : (cs : List Made) (c : Made) (d : DayInput) (out : List ℕ) (T Max : ℕ) → Holds start (cs ++ (c ∷ []))
     → c .asked ≡ Asked.day d out → answerOf (c .reply .outcome) ≡ accepted (T ∷ Max ∷ [])
     → DayReports (registerAfter start cs) (noted cs) d T Max (c .after)
@@ -125,6 +138,7 @@ of-day cs c d out T Max holds is said =
       first-is-own = λ none. let last : getD (noted cs) 0 0 ≡ 0 = rw none refl in omega (arith, so-far);
       at-least-own = rw reported (at-least-own o kept (g .days));
       never-falls = rw (reported, notes) (never-falls o kept (g .days));
+      T-above = subst (λ (T : ℕ). 0 < T) (ap (λ (l : List ℕ). getD l 0 0) told) (some-loss g d (length out) clear);
       T-is = sym (ap (λ (l : List ℕ). getD l 0 0) told);
       writes =
           wrote ∙ ap (λ (x : Register). written x call) left
@@ -183,4 +197,10 @@ highest-so-far =
           λ 𝓤 H A mem run cs c out D M funds from.
           let holds = demand-3 .compiled-lists 𝓤 H A mem run (cs ++ (c ∷ [])) from in
           of-closing (map madeOf cs) (madeOf c) out D M funds (subst (Holds start) (map-append madeOf cs (c ∷ [])) holds);
+      compiled-anew =
+          λ 𝓤 H A mem run cs a rest o from is clear.
+          let same = map-append madeOf cs (a ∷ rest) in
+          let holds = subst (Holds start) same (demand-3 .compiled-lists 𝓤 H A mem run (cs ++ (a ∷ rest)) from) in
+          let (after, notes) = begins-anew (map madeOf cs) (madeOf a) (map madeOf rest) o holds is clear in
+          (after, ap noted same ∙ notes);
     }

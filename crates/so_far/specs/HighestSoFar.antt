@@ -74,7 +74,8 @@ pub record DayReports (g : Register) (notes : List ℕ) (d : DayInput) (T Max : 
   pub first-is-own : notes ≡ [] → Max ≡ ownOf g d
   pub at-least-own : ownOf g d ≤ Max
   pub never-falls : Every (λ x. x ≤ Max) notes
-  -- T, e and share are as they were, and the very Max that is returned is in the three cent figures
+  -- T, e and share are as they were, and the very Max that is returned is in the three cent figures; T is above 0, as `cents` asks
+  pub T-above : 0 < T
   pub T-is : T ≡ total (g .held) (accounts (g .held .k) d)
   pub writes : out ≡ flatMap (λ m. five (loss (g .held .k) (accounts (g .held .k) d) m) Max T) (members (g .held .n))
   pub fits : Every Fits64 (T ∷ Max ∷ out)
@@ -120,3 +121,8 @@ pub record HighestSoFar : Type 2 where
       → madeOf c .asked ≡ Asked.closing out → answerOf (madeOf c .reply .outcome) ≡ accepted (D ∷ M ∷ funds ∷ [])
       → let g = registerAfter start (map madeOf cs) in
       MIsTheSame (owns (g .held) (g .days)) (noted (map madeOf cs)) M
+  pub compiled-anew :
+      {R : Type 1} (𝓤 : URA R) (H : Heap 𝓤) (A : Atoms 𝓤) (mem : Memory → SProp 𝓤) (run : Routine → Fun 𝓤)
+      (cs : List Called) (a : Called) (rest : List Called) (o : Opening) → FromFresh 𝓤 H A mem run (cs ++ (a ∷ rest))
+      → madeOf a .asked ≡ Asked.opening o → refusal (registerAfter start (map madeOf cs)) (Call.opening o) ≡ Clear
+      → Holds (openedBy o) (map madeOf rest) × (noted (map madeOf (cs ++ (a ∷ rest))) ≡ noted (map madeOf rest))
