@@ -249,7 +249,6 @@ WORKED_ONLY = [
     ("Max EULs of its own that fall and rise again, one of them 0", month(
         2, [0, 0], (2, *hedged(0), falls(2, 50, 30)), (3, *hedged(0), falls(2, 80, 20)), (4, *hedged(7), falls(2, 0, 0)),
         (7, *hedged(0), falls(2, 10, 60)), (9, *hedged(5), falls(2, 3, 2)), (30, *hedged(0), falls(2, 90, 0)), (31, *hedged(0), falls(2, 1, 2)))),
-    ("31 days, the first of the highest Max EUL, the others of less and less", month(1, [0], *((i, house(1, 50 - i)) for i in range(1, 32)))),
     ("a house account of kind h", one_house(acct(1, 0, "h", 10, 0, 0, 0))),
     ("a house account of kind empty", one_house(acct(1, 0, "", 10, 0, 0, 0))),
     ("a house account of kind HH", one_house(acct(1, 0, "HH", 10, 0, 0, 0))),
