@@ -1,4 +1,6 @@
 // A day's acct lines, read one after another into columns.
+#![tactic(auto)]
+
 ghost use Rattle.std.specs.Prelude.{false, ◌∷◌, ◌≡◌, ◌+◌, ◌-◌, ◌*◌, ◌≤◌, ◌<◌, pos, length, get_or, set, drop};
 ghost use Rattle.numbers.specs.Signed.{◌⁺};
 ghost use Rattle.lines.specs.Forms.{is_negative, signs_wrong};

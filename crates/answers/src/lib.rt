@@ -1,4 +1,6 @@
 // What a call says, as the report prints it: one way for openings, days and closings.
+#![tactic(auto)]
+
 mod totals;
 
 ghost use Rattle.std.specs.Prelude.{[], ◌∷◌, ◌≡◌, ◌*◌, ◌≤◌, ◌<◌, ◌^◌, length};

@@ -1,4 +1,6 @@
 // A day of the month's text: its acct lines are read, the day call is made, and what it says is printed.
+#![tactic(auto)]
+
 ghost use Rattle.std.specs.Prelude.{List, ◌≡◌, true, ◌+◌, ◌*◌, ◌≤◌, ◌<◌, ◌^◌, ℕ, length};
 ghost use Rattle.methodology.specs.Register.{Register};
 ghost use Rattle.methodology.specs.Text.{refused_line};

@@ -1,4 +1,6 @@
 // Lines and fields as parts of the caller's bytes, and a line's fields read in one pass.
+#![tactic(auto)]
+
 ghost use Rattle.std.specs.Prelude.{◌≡◌, ◌+◌, ◌-◌, ◌<◌, ◌≤◌, min, true, false, not, [], length, drop, pos, neg_ℤ, if◌then◌else◌, nat_eq, nat_lt, slice_index_or};
 ghost use Rattle.numbers.specs.Lists.{any, first_where};
 ghost use Rattle.methodology.specs.Text.{LF as Text-as-LF, split, fields, same as Text·same, is_digit, kind_of};

@@ -1,6 +1,8 @@
 // Document 01's figures 1 to 10, run through the calls of a period. What it prints is held to the stored output: for each figure
 // its number, T and Max EUL, then each member's five numbers; for 9 and 10 then the closing's D, M and total funded, and each
 // member's raw, funded and unfunded contribution.
+#![tactic(auto)]
+
 use methodology::DayTerms;
 use period::{Outcome, Period};
 use printing::put_rows;

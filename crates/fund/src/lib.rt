@@ -1,4 +1,6 @@
 // What a day and a closing write, each member's figures into its own stretch of the lent buffer, and the sums of shares between them.
+#![tactic(auto)]
+
 ghost use Rattle.std.specs.Prelude.{◌≡◌, ℕ, ◌*◌, ◌<◌, ◌≤◌, length, get_or, take, drop};
 ghost use mathlib.Core.List.{◌++◌, flat_map};
 ghost use Rattle.numbers.specs.Sums.{Σ};

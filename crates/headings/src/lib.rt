@@ -1,4 +1,6 @@
 // A day's headings as columns of numbers, and back.
+#![tactic(auto)]
+
 ghost use Rattle.std.specs.Prelude.{◌≡◌, cond, min, ltb, get_or};
 ghost use Rattle.headings.specs.Columns.{columns, packed};
 

@@ -1,4 +1,6 @@
 // The lines of a month's text, each read in one pass where it stands.
+#![tactic(auto)]
+
 ghost use Rattle.std.specs.Prelude.{◌≡◌, false, map, ◌+◌, ◌-◌, ◌≤◌, ◌<◌, length, drop};
 ghost use Rattle.numbers.specs.Lists.{any};
 ghost use Rattle.numbers.specs.Signed.{◌⁺};

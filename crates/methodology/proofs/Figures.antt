@@ -30,7 +30,7 @@ abbrev ◌is◌ : List ℕ → List ℕ → Case
 got is due = record { got = map pos got; due = map pos due }
 
 abbrev ◌is_signed◌ : List ℤ → List ℤ → Case
-got is_Signed due = record { got = got; due = due }
+got is_signed due = record { got = got; due = due }
 
 -- a period of one scenario, with a group number for each member
 abbrev groups : List ℕ → Opening
@@ -98,12 +98,12 @@ cases =
     -- 3: House -40; R 60, 50, 30, -25; U 20; A 10: EUL 100
     ∷ member_euls (minus 40)
     ((R, pos 60) ∷ (R, pos 50) ∷ (R, pos 30) ∷ (R, minus 25) ∷ (U, pos 20) ∷ (A, pos 10) ∷ [])
-    is_Signed (pos 100 ∷ pos 100 ∷ [])
+    is_signed (pos 100 ∷ pos 100 ∷ [])
     -- 4: House 0; R 10, 10; U 100: EUL 160
-    ∷ member_euls (pos 0) ((R, pos 10) ∷ (R, pos 10) ∷ (U, pos 100) ∷ []) is_Signed (pos 160 ∷ pos 160 ∷ [])
+    ∷ member_euls (pos 0) ((R, pos 10) ∷ (R, pos 10) ∷ (U, pos 100) ∷ []) is_signed (pos 160 ∷ pos 160 ∷ [])
     -- 5: House 0; R five times 3: EUL 8
     ∷ member_euls (pos 0) ((R, pos 3) ∷ (R, pos 3) ∷ (R, pos 3) ∷ (R, pos 3) ∷ (R, pos 3) ∷ [])
-    is_Signed (pos 8 ∷ pos 8 ∷ [])
+    is_signed (pos 8 ∷ pos 8 ∷ [])
     -- 6: Affiliates 100 and -30 under one scenario: Max EUL 100
     ∷ max_of (groups (1 ∷ 1 ∷ [])) (houses 1 (pos 100 ∷ minus 30 ∷ [])) is (100 ∷ [])
     -- 7: Affiliates 100 and 80, a third member 150: Max EUL 180

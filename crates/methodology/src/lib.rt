@@ -1,4 +1,5 @@
 // The types and the kinds that the definitions in specs/ share with the code of the crates that use this one. There is no code here.
+#![tactic(auto)]
 
 // What an opening brings. "A period has n members, numbered 1 to n (1 to 32), and k stress scenarios (1 to 16). Each member has a group
 // number, 0 to 32." In a call its groups are a list of any length; a period keeps them in 32 places, with 0 past the last.

@@ -1,4 +1,6 @@
 // The report of a month's text: its lines are read in their order, the calls are made that they ask for, and what they say is printed.
+#![tactic(auto)]
+
 mod days;
 mod members;
 

@@ -321,6 +321,7 @@ module _ {A : Type 0} (p : A → Bool) where
 
 -- what every element has, a member has; and back
 pub every_mem : {A : Type 0} (P : A → Type 0) (xs : List A) → Every P xs → (x : A) → x ∈ xs → P x
+every_mem P [] h x i = elim i [ ]
 every_mem P (y ∷ ys) h x (here e) = subst P (sym e) h.0
 every_mem P (y ∷ ys) h x (there i) = every_mem P ys h.1 x i
 

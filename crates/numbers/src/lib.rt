@@ -1,4 +1,6 @@
 // Definitions and laws of numbers and lists, in specs/ and proofs/, and some code over numbers.
+#![tactic(auto)]
+
 ghost use Rattle.std.specs.Prelude.{◌≡◌, map, ◌≤◌, min, max, ltb, length, get_or};
 ghost use Rattle.numbers.specs.Lists.{range, any};
 

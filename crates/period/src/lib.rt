@@ -1,4 +1,6 @@
 // A period: opened, sized day by day, closed. Each call takes it and hands it back inside its reply.
+#![tactic(auto)]
+
 mod arrays;
 
 ghost use Rattle.std.specs.Prelude.{◌≡◌, true, List, length, get_or, take, ℕ, ◌*◌, ◌≤◌, ◌<◌};

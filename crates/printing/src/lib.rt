@@ -1,4 +1,6 @@
 // How the programs print numbers.
+#![tactic(auto)]
+
 ghost use Rattle.std.specs.Prelude.{◌<◌};
 
 use libc::STDOUT_FILENO;

@@ -1,5 +1,7 @@
 // The program: reads a month's text and writes its report to standard output. Where a read or a write fails it says so on standard error, so
 // that no part of a text passes for the whole. The text comes from a descriptor that the caller names: standard input, or in a test none.
+#![tactic(auto)]
+
 ghost use Rattle.std.specs.Prelude.{true, false, List, ◌≡◌, ℕ, ◌≤◌, length, take};
 ghost use Rattle.io.specs.Counts.{clamp_len};
 ghost use Rattle.lines.specs.Forms.{is_negative};

@@ -1,4 +1,6 @@
 // The quotients of a day and of a month. Their products pass 64 bits, and each is rounded once, from the exact fraction.
+#![tactic(auto)]
+
 ghost use Rattle.std.specs.Prelude.{◌≡◌, ◌*◌, ◌+◌, ◌/◌, ◌%◌, ◌<◌, ◌≤◌};
 ghost use Rattle.numbers.specs.Rounding.{ceil_div, round_div};
 ghost use Rattle.methodology.specs.Day.{scale};

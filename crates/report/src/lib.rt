@@ -1,5 +1,7 @@
 // The report's lines, put into a lent buffer. Nothing here asks for room: what finds none is left out, and the index that is returned is
 // then above the buffer's length.
+#![tactic(auto)]
+
 ghost use Rattle.std.specs.Prelude.{◌≡◌, ◌+◌, ◌*◌, ◌≤◌, length, drop};
 ghost use mathlib.Core.List.{[], ◌∷◌, flat_map};
 ghost use Rattle.methodology.specs.Text.{tab, decimal, printed, refused_line, rows};

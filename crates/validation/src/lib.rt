@@ -1,5 +1,7 @@
 // The rows of the refusal table that go by a call's arguments: those of a day in plain slices here, and the limits of rows 1, 3 and 4. Any
 // numbers may come in: a wrong one is an answer.
+#![tactic(auto)]
+
 pub mod limits;
 
 ghost use Rattle.std.specs.Prelude.{◌≡◌, ◌||◌, List, ℕ, ◌+◌, ◌*◌, ◌≤◌, ltb, length};

@@ -1,5 +1,7 @@
 // Runs months one after another. Each stands after a line with the word `month`, its number and how many bytes it has, and its report is
 // written after such a line with the word `report`. A text that is not of this form ends the run.
+#![tactic(auto)]
+
 ghost use Rattle.std.specs.Prelude.{◌≤◌, length};
 
 use libc::{STDIN_FILENO, STDOUT_FILENO};
