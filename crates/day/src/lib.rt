@@ -19,7 +19,7 @@ use report::put_refused;
 
 // How far a report has come: the text goes on at index `next`, `line` is the line there, or the day line while a day's accounts are read,
 // `at` is the index after what was printed, and the calls so far have left the period.
-#[derive(Drop)]
+#[derive(Clone, Copy)]
 pub struct Progress {
     pub next: usize,
     pub line: u64,
@@ -28,7 +28,7 @@ pub struct Progress {
 }
 
 // What a turn comes to: the report is over, or days go on from there. Of a report that is over only `at` counts.
-#[derive(Drop)]
+#[derive(Clone, Copy)]
 pub struct Turn {
     pub over: bool,
     pub to: Progress,

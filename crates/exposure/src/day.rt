@@ -73,7 +73,7 @@ fn row_between(
 }
 
 // Each member's loss, member 1's first, and their sum T.
-#[derive(Drop)]
+#[derive(Clone, Copy)]
 pub struct Losses {
     pub each: [u64; 32],
     pub total: u64,
@@ -138,7 +138,7 @@ pub fn own_max_eul(
 }
 
 // A day's own figures, worked from its accounts and what the opening brought alone: losses, T, and `top`, its own Max EUL.
-#[derive(Drop)]
+#[derive(Clone, Copy)]
 pub struct Figures {
     pub losses: Losses,
     pub top: u64,

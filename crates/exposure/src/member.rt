@@ -34,7 +34,7 @@ fn only_of_r(kind: u64, g: u64) -> u64
 
 // What the accounts passed so far come to: the house EUL with its sign; the positive EULs of all clients; the two largest of kind R;
 // the positive EULs of kinds A and U.
-#[derive(Drop)]
+#[derive(Clone, Copy)]
 pub struct Tally {
     house: i64,
     clients: u64,

@@ -68,7 +68,7 @@ pub fn same(a: &[u8], b: &[u8]) -> bool
 
 // A number and the index after the byte that ends it. That index is 0 where there is no number, which is how every reader here says so: no
 // field ends before the text's first byte.
-#[derive(Drop)]
+#[derive(Clone, Copy)]
 struct Natural {
     value: u64,
     next: usize,
@@ -82,7 +82,7 @@ fn is_digit(b: u8) -> bool
 }
 
 // The value of some digits, and the index after them.
-#[derive(Drop)]
+#[derive(Clone, Copy)]
 struct Decimal {
     value: u64,
     end: usize,

@@ -12,7 +12,7 @@ ghost use Rattle.lines.specs.Forms.{not_letters, line_row, is_negative, AccountI
 use fields::{field, row_at, same};
 
 // What reading several lines comes to: the index after them, or the first bad one, counted from 0.
-#[derive(Drop)]
+#[derive(Clone, Copy)]
 pub enum Lines {
     Read(usize),
     Stopped(usize),

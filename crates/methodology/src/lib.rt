@@ -3,7 +3,7 @@
 
 // What an opening brings. "A period has n members, numbered 1 to n (1 to 32), and k stress scenarios (1 to 16). Each member has a group
 // number, 0 to 32." In a call its groups are a list of any length; a period keeps them in 32 places, with 0 past the last.
-#[derive(Drop)]
+#[derive(Clone, Copy)]
 pub struct Opening {
     pub n: u64,
     pub k: u64,
@@ -11,14 +11,14 @@ pub struct Opening {
 }
 
 // What a day brings beside its accounts.
-#[derive(Drop)]
+#[derive(Clone, Copy)]
 pub struct DayTerms {
     pub number: u64,
 }
 
 // What names an account of a day: its member, its account number and its kind. The fields take any number, since a wrong one is an answer
 // (row 5 of the refusal table) and nothing that a caller must rule out.
-#[derive(Drop)]
+#[derive(Clone, Copy)]
 pub struct Heading {
     pub member: u64,
     pub number: u64,
@@ -36,7 +36,7 @@ pub const KIND_A: u64 = 2;
 pub const KIND_U: u64 = 3;
 
 // A period is fresh, open or closed.
-#[derive(Drop)]
+#[derive(Clone, Copy)]
 pub enum Status {
     Fresh,
     Open,
@@ -44,7 +44,7 @@ pub enum Status {
 }
 
 // What the refusal table says of a call: no row is met, a row, or a row with the index of the first bad account.
-#[derive(Drop)]
+#[derive(Clone, Copy)]
 pub enum Refusal {
     Clear,
     Row(u64),

@@ -20,7 +20,7 @@ use validation::limits::bad_opening;
 
 // What the calls of a period have left. Its fields are private: a period is a fresh one, or one that calls returned. The groups of the
 // opening that is held stand in 32 places, with 0 past the last.
-#[derive(Drop)]
+#[derive(Clone, Copy)]
 pub struct Period {
     status: Status,
     held: Opening,
@@ -29,7 +29,7 @@ pub struct Period {
 
 // What the days accepted since the last accepted opening come to: `last` is the last accepted day number, `days` is D, `highest` is M, and
 // member i + 1 has the sum of its shares in place i; past member n stands 0.
-#[derive(Drop)]
+#[derive(Clone, Copy)]
 pub struct Accrued {
     last: u64,
     days: u64,
@@ -39,7 +39,7 @@ pub struct Accrued {
 
 // What a call says: acceptance, with a day's T and the Max EUL that it reports or a closing's D, M and total funded, or one numbered
 // refusal, with its index in rows 5 and 6. `answer_of` in specs/Reading.antt gives document 01's number and values for each case.
-#[derive(Drop)]
+#[derive(Clone, Copy)]
 pub enum Outcome {
     Opened,
     Sized(u64, u64),
@@ -48,7 +48,7 @@ pub enum Outcome {
     RefusedAt(u64, u64),
 }
 
-#[derive(Drop)]
+#[derive(Clone, Copy)]
 pub struct Reply {
     pub period: Period,
     pub outcome: Outcome,

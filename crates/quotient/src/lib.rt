@@ -18,7 +18,7 @@ pub fn share(e: u64, t: u64) -> u64
 }
 
 // A member's figures of a day, in cents.
-#[derive(Drop)]
+#[derive(Clone, Copy)]
 pub struct Cents {
     pub value: u64,
     pub reserve: u64,
@@ -51,7 +51,7 @@ pub fn raw(m: u64, s: u64, d: u64) -> u64
 // Long division takes a factor in digits of 13 bits, so that each turn stays in 64 bits for numbers up to 2^50.
 const RADIX: u64 = 8192;
 
-#[derive(Drop)]
+#[derive(Clone, Copy)]
 struct QuotRem {
     quot: u64,
     rem: u64,

@@ -1,0 +1,29 @@
+-- `kind_of` meets its contract: a field of one byte is that byte alone, and its kind is computed.
+use Rattle.std.proofs.Common.{refl, rules}
+use Rattle.methodology.specs.Text.{bytes, same, kind_of}
+use Rattle.fields.proofs.KindAt.{kind_longer, kind_letter, kind_other_letter}
+use Rattle.fields.proofs.kind_of.Goals as goal
+
+pub returns-then-field-ne1 : goal.returns-then-field-ne1
+returns-then-field-ne1 c = rw (kind_longer _ c.if-field-ne1.true)
+
+pub returns-in-72 : goal.returns-in-72
+unfolding kind_of bytes same
+returns-in-72 c = rw (kind_letter _ _ c.if-field-ne1.false c.in-65«OR in-72 in-82 in-85 in_default».keys1) refl
+
+pub returns-in-82 : goal.returns-in-82
+unfolding kind_of bytes same
+returns-in-82 c = rw (kind_letter _ _ c.if-field-ne1.false c.in-65«OR in-72 in-82 in-85 in_default».keys2) refl
+
+pub returns-in-65 : goal.returns-in-65
+unfolding kind_of bytes same
+returns-in-65 c = rw (kind_letter _ _ c.if-field-ne1.false c.in-65«OR in-72 in-82 in-85 in_default».keys3) refl
+
+pub returns-in-85 : goal.returns-in-85
+unfolding kind_of bytes same
+returns-in-85 c = rw (kind_letter _ _ c.if-field-ne1.false c.in-65«OR in-72 in-82 in-85 in_default».keys4) refl
+
+pub returns-in_default : goal.returns-in_default
+returns-in_default c =
+    let r = c.in-65«OR in-72 in-82 in-85 in_default».rest in
+    rw (kind_other_letter _ c.if-field-ne1.false r.0.0.0.1 r.0.0.1 r.0.1 r.1)

@@ -1,0 +1,8 @@
+-- `put_refused` meets its contract: its array and its word are those of `refusedLine`.
+use borrow.Author.Rules.{rules}
+use Rattle.methodology.specs.Text.{bytes}
+use Rattle.report.proofs.put_refused.Goals as goal
+
+pub returns : goal.returns
+unfolding bytes
+returns c = c.put_line.ensures
