@@ -2,7 +2,6 @@
 use mathlib.Core.Path.{refl}
 use native.Mathlib.Omega.{arith}
 use native.Mathlib.Nat.{mod-lt}
-use borrow.Author.Rules.{rules}
 use Rattle.numbers.proofs.Rounding.{round_down, round_up, round_le_ceil, ceil_le_self}
 use Rattle.quotient.proofs.div_round.Goals as goal
 

@@ -1,7 +1,6 @@
 -- `div_up` meets its contract: one more than the quotient, where a remainder is left. That is at most p, and so fits.
 use mathlib.Core.Path.{refl}
 use native.Mathlib.Omega.{arith}
-use borrow.Author.Rules.{rules}
 use Rattle.numbers.proofs.Rounding.{ceil_exact, ceil_more, ceil_le_self}
 use Rattle.quotient.proofs.div_up.Goals as goal
 

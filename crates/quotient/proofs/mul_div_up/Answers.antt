@@ -1,5 +1,4 @@
 -- `mul_div_up` meets its contract: one more than the quotient, where a remainder is left.
-use borrow.Author.Rules.{rules}
 use Rattle.numbers.proofs.Rounding.{ceil_exact, ceil_more}
 use Rattle.quotient.proofs.mul_div_up.Goals as goal
 

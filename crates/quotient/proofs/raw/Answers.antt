@@ -3,7 +3,6 @@ use mathlib.Core.Path.{◌≡◌, ap, ap₂, ◌∙◌}
 use Prim.Native.Nat.{ℕ, ◌*◌, ◌/◌, ◌≤◌}
 use native.Mathlib.Omega.{arith}
 use native.Mathlib.Nat.{div-le_of_le-mul, mul-le-mul_left}
-use borrow.Author.Rules.{rules}
 use Rattle.numbers.specs.Rounding.{ceil_div}
 use Rattle.numbers.proofs.Rounding.{ceil_ceil}
 use Rattle.methodology.specs.Day.{scale}
