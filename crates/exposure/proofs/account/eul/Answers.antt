@@ -1,5 +1,4 @@
 -- `eul` meets its contract: both steps of the signed sum fit.
-use borrow.Author.Rules.{rules}
 use native.Mathlib.Omega.{arith}
 use Prim.Native.Nat.{ℕ, ◌<◌, ◌^◌}
 use lib.IntN.{pos, ◌-ℤ◌, ◌+ℤ◌}
@@ -9,8 +8,7 @@ use mir.ValLaws.{to_z_pos}
 use Rattle.numbers.proofs.Signed.{signed, add, sub, →sfits, back}
 use Rattle.methodology.specs.Account.{eul_of}
 use Rattle.exposure.specs.AccountRanges.{Owed}
-use Rattle.exposure.proofs.account.eul.Statement.{statement}
-use Rattle.exposure.proofs.account.eul.Tie as tie
+use Rattle.exposure.proofs.account.eul.Goals as goal
 
 module _ {f m x : ℕ} (p : Owed f m x) where
   fits₁ : SFits w64 (pos f -ℤ pos m)
@@ -22,30 +20,18 @@ module _ {f m x : ℕ} (p : Owed f m x) where
   below : (f < 2 ^ 63) × (m < 2 ^ 63) × (x < 2 ^ 63)
   below = omega arith
 
-cast-result : tie.Need-overflow-cast-result
-cast-result c = search rules
-
-cast-result-2 : tie.Need-overflow-cast-result-2
-cast-result-2 c = search rules
-
-sub-result : tie.Need-overflow-sub-result
-sub-result c =
+pub overflow_sub-result : goal.overflow_sub-result
+overflow_sub-result c =
     let b = below c.requires in
     simp (to_z_pos w64 _ b.0, to_z_pos w64 _ b.1) (fits₁ c.requires)
 
-cast-result-3 : tie.Need-overflow-cast-result-3
-cast-result-3 c = search rules
-
-add-result : tie.Need-overflow-add-result
-add-result c =
+pub overflow_add-result : goal.overflow_add-result
+overflow_add-result c =
     let b = below c.requires in
     simp (to_z_pos w64 _ b.0, to_z_pos w64 _ b.1, to_z_pos w64 _ b.2, back (fits₁ c.requires)) (fits₂ c.requires)
 
-returns : tie.Need-returns
+pub returns : goal.returns
 unfolding eul_of
 returns c =
     let b = below c.requires in
     simp (to_z_pos w64 _ b.0, to_z_pos w64 _ b.1, to_z_pos w64 _ b.2, back (fits₁ c.requires), back (fits₂ c.requires))
-
-pub eul-spec : {M : Type 1} → statement M
-eul-spec = tie.close (tie.spec cast-result cast-result-2 sub-result cast-result-3 add-result returns)
