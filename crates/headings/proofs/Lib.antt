@@ -1,3 +1,1 @@
 pub mod Filled
-mod LocalArray
-pub mod LentArray
