@@ -1,11 +1,10 @@
 -- `field_into` meets its contract: before each turn the last digits stand in the buffer, and `rest` has those that are due.
 use lib.ListN.{length-set}
-use mathlib.Core.Logic.{◌⊎◌, inl, inr}
+use mathlib.Core.Logic.{◌⊎◌}
 use Prim.Native.Nat.{◌≤◌}
 use native.Mathlib.Omega.{arith}
 use Rattle.report.proofs.DigitsPrinted.{filled_start, filled_more, filled_all}
 use Rattle.report.proofs.field_into.Goals as goal
-use Rattle.report.proofs.field_into.Goals.{then-loop-j-test+else-rest-gt9, else-loop-j-test}
 
 pub loop-j-init : goal.loop-j-init
 loop-j-init c = filled_start _ _ c.requires
@@ -14,7 +13,7 @@ pub bounds-buf-j : goal.bounds-buf-j
 bounds-buf-j c = let f = c.loop-j.invariant in omega (arith, f.long, f.most)
 
 pub loop-j-preserved : goal.loop-j-preserved
-loop-j-preserved c = filled_more c.loop-j.invariant c.loop-j-test.true c.if-rest-gt9.true
+loop-j-preserved c = filled_more c.loop-j.invariant (omega arith) (omega arith)
 
 pub bounds-buf-j-2 : goal.bounds-buf-j-2
 bounds-buf-j-2 c = let f = c.loop-j.invariant in omega (arith, f.long, f.most)
@@ -34,8 +33,5 @@ shape_of-buf c = let f = c.loop-j.invariant in simp length-set (omega (arith, f.
 pub returns : goal.returns
 returns c =
     let f = c.loop-j.invariant in
-    let left : (c.loop-j.j ≤ 1) ⊎ (c.loop-j.rest ≤ 9) = elim c.loop-j-test.branch [
-      | then-loop-j-test+else-rest-gt9 w ↦ inr w.if-rest-gt9.false
-      | else-loop-j-test w ↦ inl w.loop-j-test.false
-    ] in
+    let left : (c.loop-j.j ≤ 1) ⊎ (c.loop-j.rest ≤ 9) = grind arith in
     record { buf_after = filled_all f left; upper_bound = omega (arith, f.most) }
