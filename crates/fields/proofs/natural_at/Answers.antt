@@ -1,4 +1,4 @@
--- `natural_at` meets its contract: each return is a law of `Digits`, by the tests that led there.
+-- `natural_at` meets its contract: each return is a law of `DigitsRead`, by the tests that led there.
 use Rattle.std.proofs.Common.{arith}
 use Rattle.fields.proofs.DigitsRead.{other_bad, open_bad, empty_bad, zeros_bad, run_good}
 use Rattle.fields.proofs.natural_at.Goals as goal
