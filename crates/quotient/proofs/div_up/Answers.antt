@@ -11,6 +11,4 @@ pub returns-else-p-q-eq0 : goal.returns-else-p-q-eq0
 returns-else-p-q-eq0 c = ceil_more _ _ c.requires _ _ refl refl c.if-p-q-eq0.false
 
 pub overflow_add-result : goal.overflow_add-result
-overflow_add-result c =
-    let s = c.before in
-    omega (arith, returns-else-p-q-eq0 c, ceil_le_self s.args.p _ s.requires)
+overflow_add-result c = omega (arith, returns-else-p-q-eq0 c, ceil_le_self c.args.p _ c.requires)

@@ -5,7 +5,7 @@ use lib.IntN.{ℤ}
 use mathlib.Core.List.{List}
 use lib.Dec.{eqb}
 use Prim.Native.Nat.{ℕ, ◌+◌, ◌*◌}
-use mathlib.Core.Bool.{Bool, not, ◌||◌}
+use mathlib.Core.Bool.{Bool, false, not, ◌||◌}
 use mathlib.Core.Path.{◌≡◌, sym, ◌∙◌}
 use lib.ListN.{length}
 use Rattle.methodology.specs.Refusals.{row◌when◌else◌, bad_input, day_rows, count_outside}
@@ -31,7 +31,8 @@ pub returns-then-bad3 : goal.returns-then-bad3
 unfolding day_rows row◌when◌else◌
 returns-then-bad3 c =
     let a = c.args in
-    rw (input (listed a.opening) a.terms a.members.now a.numbers.now a.kinds.now a.npvs.now a.margins.now a.extras.now (sym c.bad_input-bad4.ensures ∙ c.if-bad4.false), sym c.bad_day_number-bad3.ensures ∙ c.if-bad3.true)
+    let past4 : c.bad_input-bad4.result ≡ false = cc in
+    rw (input (listed a.opening) a.terms a.members.now a.numbers.now a.kinds.now a.npvs.now a.margins.now a.extras.now (sym c.bad_input-bad4.ensures ∙ past4), sym c.bad_day_number-bad3.ensures ∙ c.if-bad3.true)
 
 pub account_rows-requires : goal.account_rows-requires
 account_rows-requires c =
