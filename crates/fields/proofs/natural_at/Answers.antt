@@ -2,7 +2,6 @@
 use Rattle.std.proofs.Common.{arith}
 use Rattle.fields.proofs.DigitsRead.{other_bad, open_bad, empty_bad, zeros_bad, run_good}
 use Rattle.fields.proofs.natural_at.Goals as goal
-use Rattle.fields.proofs.natural_at.Goals.{then-text-q-eq48+else-i-q-2, else-text-q-eq48}
 
 pub returns-then-i-text : goal.returns-then-i-text
 returns-then-i-text c = open_bad _ _ _ _ _ c.first_digits-digits.ensures.run c.requires.end_value (omega arith)
@@ -28,10 +27,10 @@ bounds-text-q c =
 pub returns-then-i-q-2 : goal.returns-then-i-q-2
 returns-then-i-q-2 c =
     let r = c.first_digits-digits.ensures in
-    zeros_bad _ _ _ _ _ r.run (omega (arith, r.run.within)) c.if-text-i.false c.requires.end_value c.if-i-q.false c.if-text-q-eq48.true c.if-i-q-2.true
+    zeros_bad _ _ _ _ _ r.run (omega (arith, r.run.within)) c.if-text-i.false c.requires.end_value c.if-i-q.false (omega arith) c.if-i-q-2.true
 
 pub returns : goal.returns
 returns c =
     let r = c.first_digits-digits.ensures in
     run_good _ _ _ _ _ r.run (omega (arith, r.run.within)) c.if-text-i.false c.requires.end_value c.if-i-q.false
-    (λ z. elim c.if-text-q-eq48.branch [ then-text-q-eq48+else-i-q-2 w ↦ omega arith | else-text-q-eq48 w ↦ omega arith ])
+    (λ z. grind arith)
