@@ -26,7 +26,7 @@ from collections import Counter, namedtuple
 TOP = os.path.join(os.path.dirname(os.path.abspath(__file__)), "..", "crates")
 # First no table, to see what is a definition at all; then the tables, those that take least time
 # first, since what one lets through is held to the next; each with how many are checked at once.
-STAGES = ((None, 40), ("WorkedCalls", 12), ("Figures", 12), ("WorkedTexts", 12), ("WorkedLimits", 4))
+STAGES = ((None, 300), ("WorkedCalls", 60), ("Figures", 60), ("WorkedTexts", 30), ("WorkedLimits", 12))
 # Words for proofs and code, of which no statement of the outside speaks.
 NOT_OF_THE_DOCUMENT = ("Lines", "Lib")
 
@@ -44,175 +44,180 @@ INSTEAD = {
     "||": ["&&"], "&&": ["||"], "+": ["-"], "-": ["+"], "*": ["+"], "/": ["%"], "%": ["/"],
     "+ℤ": ["-ℤ"], "-ℤ": ["+ℤ"], "⊕": ["⊗"], "⊗": ["⊕"], "not": [""], "⁺": ["⁻"],
     "ltb": ["leb"], "leb": ["ltb"], "eqb": ["leb", "(λ x y. leb y x)"],
-    "max": ["min", "_+_"], "ceilDiv": ["roundDiv", "_/_"], "roundDiv": ["ceilDiv", "_/_"],
+    "max": ["min", "◌+◌"], "ceil_div": ["round_div", "◌/◌"], "round_div": ["ceil_div", "◌/◌"],
     "greatest": ["Σ"], "Σ": ["greatest"], "any": ["(λ test l. not (any (λ x. not (test x)) l))"],
     "take": ["drop"], "drop": ["take"], "true": ["false"], "false": ["true"], "pos": ["negsuc"],
     "suc": [""], "keep": ["(λ test l. l)"], "descending": ["(λ l. l)"],
 }
 SAME_TYPE = [names.split() for names in (
     ".n .k", ".margins .extras", ".margin .extra", ".member .number .kind", "o .held",
-    "kindH kindR kindA kindU", "isHouse isR isAorU isClient", "prev h nobody", "e Max T", "M S D",
+    "kind_h kind_r kind_a kind_u", "is_house is_r is_aor_u is_client", "prev h nobody", "e Max T", "M S D",
     "value reserve estimate share", "funded unfunded shortfall",
-    "halfOfClients twoLargestOfR partB partC", "total ownMaxEul", "eulUnder ownEul",
+    "half_of_clients two_largest_of_r part_b part_c", "total own_max_eul", "eul_under own_eul",
     "Fresh Open Closed", "number index", "n k", "at i count used", "tab LF", "bad5 bad6 count",
-    "last number", "margin extra fall", "room D", "m j m′ k", "x y",
-    "nOutside kOutside groupOutside countOutside memberOutside", "step accept",
-    "numberOf below0", '"H" "R" "A" "U"', '"period" "member" "day" "acct" "end"',
+    "last number", "margin extra fall", "room D", "m j m' k", "x y",
+    "n_outside k_outside group_outside count_outside member_outside", "step accept",
+    "number_of below0", '"H" "R" "A" "U"', '"period" "member" "day" "acct" "end"',
     '"daily" "contribution" "fund" "refused" "total"', "ends bad", "minimum scale limit",
 )]
 # Their arguments may change places.
 COMMUTE = ("eqb", "max", "same")
 # Which argument of these is a list, to be cut short.
-OVER_A_LIST = {"Σ": 1, "Σℤ": 1, "Σᶠ": 1, "greatest": 1, "any": 2, "keep": 2, "map": 2, "flatMap": 2, "firstWhere": 2}
+OVER_A_LIST = {"Σ": 1, "Σℤ": 1, "Σᶠ": 1, "greatest": 1, "any": 2, "keep": 2, "map": 2, "flat_map": 2, "first_where": 2}
 # Where a name that stands in another's place is defined, if its file does not have it.
 FROM = {
-    "leb": "lib.Dec", "min": "Prim.Native.Nat", "_+_": "Prim.Native.Nat", "_-_": "Prim.Native.Nat",
-    "_/_": "Prim.Native.Nat", "_%_": "Prim.Native.Nat", "_-ℤ_": "lib.IntN", "_+ℤ_": "lib.IntN",
-    "negsuc": "lib.IntN", "pos": "lib.IntN", "max": "Prim.Native.Nat", "_*_": "Prim.Native.Nat",
-    "range": "Rattle·numbers.specs.Lists", "Σℤ": "Rattle·numbers.specs.Sums",
-    "_⁺": "Rattle·numbers.specs.Signed", "cond": "mathlib.Core.Bool", "eqb": "lib.Dec",
-    "length": "lib.ListN", "ltb": "lib.Dec", "not": "mathlib.Core.Bool", "_||_": "mathlib.Core.Bool",
-    "_&&_": "mathlib.Core.Bool", "roundDiv": "Rattle·numbers.specs.Rounding",
-    "ceilDiv": "Rattle·numbers.specs.Rounding", "Σ": "Rattle·numbers.specs.Sums",
-    "greatest": "Rattle·numbers.specs.Sums", "_⁻": "Rattle·numbers.specs.Signed",
-    "take": "lib.ListN", "drop": "lib.ListN", "false": "mathlib.Core.Bool", "true": "mathlib.Core.Bool",
-    "withGroups": "Rattle·methodology·specs.specs.Account", "dailies": "Rattle·methodology·specs.specs.Day",
-    "ownMaxEul": "Rattle·methodology·specs.specs.Day", "reportedMaxEul": "Rattle·methodology·specs.specs.Contribution",
-    "_++_": "mathlib.Core.List",
-    "map": "mathlib.Core.List", "isOpen": "Rattle·methodology·specs.specs.Refusals",
+    **dict.fromkeys((
+        "leb", "ltb", "eqb", "min", "max", "◌+◌", "◌-◌", "◌*◌", "◌/◌", "◌%◌", "negsuc", "pos", "◌-ℤ◌", "◌+ℤ◌", "cond", "not",
+        "◌||◌", "◌&&◌", "false", "true", "length", "take", "drop", "map", "◌++◌"), "Rattle.std.specs.Prelude"),
+    "range": "Rattle.numbers.specs.Lists", "Σℤ": "Rattle.numbers.specs.Sums", "Σ": "Rattle.numbers.specs.Sums",
+    "greatest": "Rattle.numbers.specs.Sums", "◌⁺": "Rattle.numbers.specs.Signed", "◌⁻": "Rattle.numbers.specs.Signed",
+    "round_div": "Rattle.numbers.specs.Rounding", "ceil_div": "Rattle.numbers.specs.Rounding",
+    "with_groups": "Rattle.methodology.specs.Account", "dailies": "Rattle.methodology.specs.Day",
+    "own_max_eul": "Rattle.methodology.specs.Day", "reported_max_eul": "Rattle.methodology.specs.Contribution",
+    "is_open": "Rattle.methodology.specs.Refusals",
 }
 
 # ---- wrong definitions that no change of one word makes: file, right, wrong
 
 BY_HAND = [line.replace("⏎", "\n    ").split(" | ") for line in """
-Contribution.highest | greatest days (λ d. ownMaxEul o (d .accounts)) | greatest (take 1 days) (λ d. ownMaxEul o (d .accounts))
-Contribution.highest | greatest days (λ d. ownMaxEul o (d .accounts)) | greatest (drop (length days - 1) days) (λ d. ownMaxEul o (d .accounts))
-Contribution.highest | greatest days (λ d. ownMaxEul o (d .accounts)) | greatest (take 2 days) (λ d. ownMaxEul o (d .accounts))
-Contribution.highest | ownMaxEul o (d .accounts)) | total o (d .accounts))
-Contribution.reportedMaxEul | greatest days | greatest (take 4 days)
-Contribution.reportedMaxEul | greatest days | greatest (take 30 days)
-Contribution.reportedMaxEul | greatest days | greatest (drop (length days - 1) days)
-Contribution.reportedMaxEul | greatest days | greatest (take 1 days ++ drop (length days - 1) days)
-Contribution.reportedMaxEul | ownMaxEul o (d .accounts)) | total o (d .accounts))
-Contribution.reportedMaxEul | greatest days (λ d. ownMaxEul o (d .accounts)) | max (greatest (take 1 days) (λ d. ownMaxEul o (d .accounts))) (min 1000000000000 (greatest days (λ d. ownMaxEul o (d .accounts))))
-Contribution.reportedMaxEul | greatest days (λ d. ownMaxEul o (d .accounts)) | max (greatest (take 1 days) (λ d. ownMaxEul o (d .accounts))) (min 700000000000000 (greatest days (λ d. ownMaxEul o (d .accounts))))
-Register.returned | reportedMaxEul (g .held) (g .days) ∷ [] | ownMaxEul (g .held) (accounts (g .held .k) d) ∷ []
-Register.returned | reportedMaxEul (g .held) (g .days) ∷ [] | min (total (g .held) (accounts (g .held .k) d)) (reportedMaxEul (g .held) (g .days)) ∷ []
-Register.written | (reportedMaxEul (g .held) (g .days)) | (ownMaxEul (g .held) (accounts (g .held .k) d))
-Register.written | (reportedMaxEul (g .held) (g .days)) | (min (total (g .held) (accounts (g .held .k) d)) (reportedMaxEul (g .held) (g .days)))
-Register.written | (reportedMaxEul (g .held) (g .days)) | (reportedMaxEul (g .held) (drop 1 (g .days)))
-Contribution.sumOfShares | Σ days | Σ (take 2 days)
-Contribution.sumOfShares | Σ days | Σ (take 1 days)
+Contribution.highest | greatest days (λ d. own_max_eul o d.accounts) | greatest (take 1 days) (λ d. own_max_eul o d.accounts)
+Contribution.highest | greatest days (λ d. own_max_eul o d.accounts) | greatest (drop (length days - 1) days) (λ d. own_max_eul o d.accounts)
+Contribution.highest | greatest days (λ d. own_max_eul o d.accounts) | greatest (take 2 days) (λ d. own_max_eul o d.accounts)
+Contribution.highest | own_max_eul o d.accounts) | total o d.accounts)
+Contribution.reported_max_eul | greatest days | greatest (take 4 days)
+Contribution.reported_max_eul | greatest days | greatest (take 30 days)
+Contribution.reported_max_eul | greatest days | greatest (drop (length days - 1) days)
+Contribution.reported_max_eul | greatest days | greatest (take 1 days ++ drop (length days - 1) days)
+Contribution.reported_max_eul | own_max_eul o d.accounts) | total o d.accounts)
+Contribution.reported_max_eul | greatest days (λ d. own_max_eul o d.accounts) | max (greatest (take 1 days) (λ d. own_max_eul o d.accounts)) (min 1000000000000 (greatest days (λ d. own_max_eul o d.accounts)))
+Contribution.reported_max_eul | greatest days (λ d. own_max_eul o d.accounts) | max (greatest (take 1 days) (λ d. own_max_eul o d.accounts)) (min 700000000000000 (greatest days (λ d. own_max_eul o d.accounts)))
+Register.returned | reported_max_eul g.held g.days ∷ [] | own_max_eul g.held (accounts g.held.k d) ∷ []
+Register.returned | reported_max_eul g.held g.days ∷ [] | min (total g.held (accounts g.held.k d)) (reported_max_eul g.held g.days) ∷ []
+Register.written | (reported_max_eul g.held g.days) | (own_max_eul g.held (accounts g.held.k d))
+Register.written | (reported_max_eul g.held g.days) | (min (total g.held (accounts g.held.k d)) (reported_max_eul g.held g.days))
+Register.written | (reported_max_eul g.held g.days) | (reported_max_eul g.held (drop 1 g.days))
+Contribution.sum_of_shares | Σ days | Σ (take 2 days)
+Contribution.sum_of_shares | Σ days | Σ (take 1 days)
 Contribution.raw | (length days) | (length (take 2 days))
-Contribution.charge | ceilDiv (11 * M * S) (10 * D * scale) | ceilDiv (11 * M * ceilDiv S D) (10 * scale)
-Contribution.charge | ceilDiv (11 * M * S) (10 * D * scale) | ceilDiv (11 * ceilDiv (M * S) (D * scale)) 10
-Contribution.charge | ceilDiv (11 * M * S) (10 * D * scale) | roundDiv (11 * M * S) (10 * D * scale)
-Contribution.exactCharge | (11 * highest o days) over (10 * D) | (11 * highest o days) over 10
-Contribution.exactCharge | (0 over 1) | (0 over 0)
-Contribution.exactCharge | cond (eqb D 0) (0 over 1) ((11 | cond (eqb D 0) ((11 * highest o days) over 10) ((11
+Contribution.charge | ceil_div (11 * M * S) (10 * D * scale) | ceil_div (11 * M * ceil_div S D) (10 * scale)
+Contribution.charge | ceil_div (11 * M * S) (10 * D * scale) | ceil_div (11 * ceil_div (M * S) (D * scale)) 10
+Contribution.charge | ceil_div (11 * M * S) (10 * D * scale) | round_div (11 * M * S) (10 * D * scale)
+Contribution.exact_charge | (11 * highest o days) over (10 * D) | (11 * highest o days) over 10
+Contribution.exact_charge | (0 over 1) | (0 over 0)
+Contribution.exact_charge | cond (eqb D 0) (0 over 1) ((11 | cond (eqb D 0) ((11 * highest o days) over 10) ((11
 Contribution.charge | cond (eqb D 0) 0 | cond (eqb D 0) 50000000
 Contribution.funded | max rawCharge minimum | cond (eqb rawCharge 0) 0 (max rawCharge minimum)
-Contribution.contributions | flatMap (λ m. three (raw o days m)) (members (o .n)) | cond (eqb (length days) 0) [] (flatMap (λ m. three (raw o days m)) (members (o .n)))
-Register.refusal | closingRefusal (g .status) (g .held) room | cond (isOpen (g .status) && eqb (length (g .days)) 0) (Row 8) (closingRefusal (g .status) (g .held) room)
-Register.returned | length (g .days) ∷ highest | cond (eqb (highest (g .held) (g .days)) 0) 0 (length (g .days)) ∷ highest
-Register.accept | record { status = Closed; held | record { status = cond (eqb (length (g .days)) 0) Open Closed; held
-Register.accept | record { status = Closed; held | record { status = cond (eqb (length (g .days)) 0) Fresh Closed; held
-Text.atEnd | cond (same rest []) | cond (same rest [] || eqb (length (g .days)) 0)
+Contribution.contributions | flat_map (λ m. three (raw o days m)) (members o.n) | cond (eqb (length days) 0) [] (flat_map (λ m. three (raw o days m)) (members o.n))
+Register.refusal | closing_refusal g.status g.held room | cond (is_open g.status && eqb (length g.days) 0) (Row 8) (closing_refusal g.status g.held room)
+Register.returned | length g.days ∷ highest | cond (eqb (highest g.held g.days) 0) 0 (length g.days) ∷ highest
+Register.accept | record { status = Closed; held | record { status = cond (eqb (length g.days) 0) Open Closed; held
+Register.accept | record { status = Closed; held | record { status = cond (eqb (length g.days) 0) Fresh Closed; held
+Text.at_end | cond (same rest []) | cond (same rest [] || eqb (length g.days) 0)
 Contribution.allowance | whole 1 ⊕ (11 * M) over (10 * scale) | whole 1
 Contribution.allowance | whole 1 ⊕ (11 * M) over (10 * scale) | (11 * M) over (10 * scale)
-Contribution.totalFunded | funded (raw o days m) | raw o days m
+Contribution.total_funded | funded (raw o days m) | raw o days m
 Contribution.unfunded | 2 * funded rawCharge | funded (2 * rawCharge)
-Day.total | Σ (members (o .n)) | Σ (members (o .n - 1))
-Day.ownMaxEul | λ j. memberUnder accts m j ⁺ | λ j. groupSum o accts m j ⁺
-Day.ownMaxEul | (greatest (members (o .n)) (λ m. greatest (scenarios (o .k)) (λ j. memberUnder accts m j ⁺))) | (greatest (members (o .n)) (loss (o .k) accts))
-Day.ownMaxEul | (greatest (members (o .n)) (λ m. greatest (scenarios (o .k)) (λ j. memberUnder accts m j ⁺)))⏎(greatest (members (o .n)) (λ m. greatest (scenarios (o .k)) | (greatest (members (o .n)) (λ m. greatest (keep (λ j. not (eqb j 7)) (scenarios (o .k))) (λ j. memberUnder accts m j ⁺)))⏎(greatest (members (o .n)) (λ m. greatest (keep (λ j. not (eqb j 7)) (scenarios (o .k)))
-Day.ownMaxEul | (greatest (members (o .n)) (λ m. greatest (scenarios (o .k)) (λ j. memberUnder accts m j ⁺)))⏎(greatest (members (o .n)) (λ m. greatest (scenarios (o .k)) | (greatest (members (o .n)) (λ m. greatest (keep (λ j. not (eqb j 15)) (scenarios (o .k))) (λ j. memberUnder accts m j ⁺)))⏎(greatest (members (o .n)) (λ m. greatest (keep (λ j. not (eqb j 15)) (scenarios (o .k)))
-Day.groupOf | cond (eqb (groupNumber o m) 0) (m ∷ []) | cond (eqb (groupNumber o m) 32) (m ∷ [])
-Day.groupOf | cond (eqb (groupNumber o m) 0) (m ∷ []) | cond (leb (groupNumber o m) 1) (m ∷ [])
-Day.groupSum | memberUnder accts m′ j) | pos (memberUnder accts m′ j ⁺))
-Day.value | roundDiv (100 * e * Max) T | 100 * roundDiv (e * Max) T
-Day.estimate | roundDiv (220 * e * Max) T | 2 * reserve e Max T
-Day.reserve | roundDiv (110 * e * Max) T | ceilDiv (110 * e * Max) T
-Account.largestDecrease | greatest (scenarios k) (decrease row) | decrease row k
-Account.largestDecrease | greatest (scenarios k) (decrease row) | decrease row 1
+Day.total | Σ (members o.n) | Σ (members (o.n - 1))
+Day.own_max_eul | λ j. member_under accts m j ⁺ | λ j. group_sum o accts m j ⁺
+Day.own_max_eul | (greatest (members o.n) (λ m. greatest (scenarios o.k) (λ j. member_under accts m j ⁺))) | (greatest (members o.n) (loss o.k accts))
+Day.own_max_eul | (greatest (members o.n) (λ m. greatest (scenarios o.k) (λ j. member_under accts m j ⁺)))⏎(greatest (members o.n) (λ m. greatest (scenarios o.k) | (greatest (members o.n) (λ m. greatest (keep (λ j. not (eqb j 7)) (scenarios o.k)) (λ j. member_under accts m j ⁺)))⏎(greatest (members o.n) (λ m. greatest (keep (λ j. not (eqb j 7)) (scenarios o.k))
+Day.own_max_eul | (greatest (members o.n) (λ m. greatest (scenarios o.k) (λ j. member_under accts m j ⁺)))⏎(greatest (members o.n) (λ m. greatest (scenarios o.k) | (greatest (members o.n) (λ m. greatest (keep (λ j. not (eqb j 15)) (scenarios o.k)) (λ j. member_under accts m j ⁺)))⏎(greatest (members o.n) (λ m. greatest (keep (λ j. not (eqb j 15)) (scenarios o.k))
+Day.group_of | cond (eqb (group_number o m) 0) (m ∷ []) | cond (eqb (group_number o m) 32) (m ∷ [])
+Day.group_of | cond (eqb (group_number o m) 0) (m ∷ []) | cond (leb (group_number o m) 1) (m ∷ [])
+Day.group_sum | member_under accts m' j) | pos (member_under accts m' j ⁺))
+Day.value | round_div (100 * e * Max) T | 100 * round_div (e * Max) T
+Day.estimate | round_div (220 * e * Max) T | 2 * reserve e Max T
+Day.reserve | round_div (110 * e * Max) T | ceil_div (110 * e * Max) T
+Account.largest_decrease | greatest (scenarios k) (decrease row) | decrease row k
+Account.largest_decrease | greatest (scenarios k) (decrease row) | decrease row 1
 Account.decrease | (base row -ℤ stress row j) ⁺ | (stress row j -ℤ base row) ⁺
-Account.eulOf | pos fall -ℤ pos margin +ℤ pos extra | pos ((pos fall -ℤ pos margin +ℤ pos extra) ⁺)
-Account.eulOf | pos fall -ℤ pos margin +ℤ pos extra | pos fall -ℤ pos margin
-Member.houseEul | Σℤ (keep isHouse accts) eul | Σℤ (keep isHouse accts) (λ a. pos (eul a ⁺))
-Member.halfOfClients | (λ a. eul a ⁺)) 2 | (λ a. eul a ⁻)) 2
-Member.halfOfClients | ceilDiv (Σ (keep isClient accts) (λ a. eul a ⁺)) 2 | Σ (keep isClient accts) (λ a. ceilDiv (eul a ⁺) 2)
-Member.halfOfClients | ceilDiv (Σ (keep isClient accts) (λ a. eul a ⁺)) 2 | ceilDiv (Σℤ (keep isClient accts) eul ⁺) 2
-Member.halfOfClients | ceilDiv (Σ (keep isClient accts) (λ a. eul a ⁺)) 2 | Σ (keep isClient accts) (λ a. eul a ⁺)
-Member.twoLargestOfR | take 2 (descending | drop 0 (descending
-Member.partC | (λ a. eul a ⁺) | (λ a. eul a ⁻)
-Member.loss | memberOwn k accts m ⁺ | greatest (range 1 k) (λ j. memberUnder accts m j ⁺)
-Refusals.memberSkipped | ltb (prev .member + 1) (h .member) | ltb 0 (prev .member) && ltb (prev .member + 1) (h .member)
-Refusals.firstBadHeading | suc (firstBadHeading n h hs) | suc (firstBadHeading n prev hs)
-Refusals.badAmount | any npvOutside (a .npvs) | any npvOutside (drop 1 (a .npvs))
-Refusals.badAmount | any npvOutside (a .npvs) | any npvOutside (take 2 (a .npvs))
-Refusals.openingRefusal | row 2 when isOpen s else row 1 when badOpening o | row 1 when badOpening o else row 2 when isOpen s
-Register.step | ifAccepted (refusal g c) (accept g c) g | accept g c
-Register.buffer | ifAccepted (refusal g c) (written (step g c) c) before | written (step g c) c
+Account.eul_of | pos fall -ℤ pos margin +ℤ pos extra | pos ((pos fall -ℤ pos margin +ℤ pos extra) ⁺)
+Account.eul_of | pos fall -ℤ pos margin +ℤ pos extra | pos fall -ℤ pos margin
+Member.house_eul | Σℤ (keep is_house accts) eul | Σℤ (keep is_house accts) (λ a. pos (eul a ⁺))
+Member.half_of_clients | (λ a. eul a ⁺)) 2 | (λ a. eul a ⁻)) 2
+Member.half_of_clients | ceil_div (Σ (keep is_client accts) (λ a. eul a ⁺)) 2 | Σ (keep is_client accts) (λ a. ceil_div (eul a ⁺) 2)
+Member.half_of_clients | ceil_div (Σ (keep is_client accts) (λ a. eul a ⁺)) 2 | ceil_div (Σℤ (keep is_client accts) eul ⁺) 2
+Member.half_of_clients | ceil_div (Σ (keep is_client accts) (λ a. eul a ⁺)) 2 | Σ (keep is_client accts) (λ a. eul a ⁺)
+Member.two_largest_of_r | take 2 (descending | drop 0 (descending
+Member.part_c | (λ a. eul a ⁺) | (λ a. eul a ⁻)
+Member.loss | member_own k accts m ⁺ | greatest (range 1 k) (λ j. member_under accts m j ⁺)
+Refusals.member_skipped | ltb (prev.member + 1) h.member | ltb 0 prev.member && ltb (prev.member + 1) h.member
+Refusals.first_bad_heading | suc (first_bad_heading n h hs) | suc (first_bad_heading n prev hs)
+Refusals.bad_amount | any npv_outside a.npvs | any npv_outside (drop 1 a.npvs)
+Refusals.bad_amount | any npv_outside a.npvs | any npv_outside (take 2 a.npvs)
+Refusals.opening_refusal | row 2 when is_open s else row 1 when bad_opening o | row 1 when bad_opening o else row 2 when is_open s
+Register.step | if_accepted (refusal g c) (accept g c) g | accept g c
+Register.buffer | if_accepted (refusal g c) (written (step g c) c) before | written (step g c) c
 Contribution.raw | (length days) | (length (take 3 days))
-Day.groupOf | (keep (λ m′. eqb (groupNumber o m′) (groupNumber o m)) (members (o .n))) | (take 2 (keep (λ m′. eqb (groupNumber o m′) (groupNumber o m)) (members (o .n))))
-Day.groupOf | eqb (groupNumber o m′) (groupNumber o m) | eqb (groupNumber o m′ % 16) (groupNumber o m % 16)
-Member.partC | Σ (keep isAorU accts) (λ a. eul a ⁺) | Σℤ (keep isAorU accts) eul ⁺
-Member.twoLargestOfR | map (λ a. eul a ⁺) (keep isR accts) | map (λ a. eul a ⁺) (take 2 (keep isR accts))
-Member.partB | max (halfOfClients eul accts) (twoLargestOfR eul accts) | cond (ltb 1 (length (keep isR accts))) (max (halfOfClients eul accts) (twoLargestOfR eul accts)) (halfOfClients eul accts)
-Refusals.badInput | (count * (o .k + 1)))⏎|| not (eqb (length (d .margins)) count)⏎|| not (eqb (length (d .extras)) count) | (length (d .margins) * (o .k + 1)))⏎|| not (eqb (length (d .margins)) (length (d .extras)))
-Refusals.badAmount | any npvOutside (a .npvs) | any npvOutside (take 3 (a .npvs))
-Refusals.badAmount | any npvOutside (a .npvs) | any npvOutside (take 16 (a .npvs))
-Refusals.firstNotZero | not (eqb (prev .member) (h .member)) && | ltb 0 (prev .member) && not (eqb (prev .member) (h .member)) &&
-Refusals.memberSkipped | ltb (prev .member + 1) (h .member) | eqb (prev .member + 2) (h .member)
-Refusals.dayRows | row 3 when badDayNumber last (d .terms .number) else⏎accountRows o d | row 3 when outside 1 31 (d .terms .number) else⏎rows-of accountRows o d else⏎row 3 when leb (d .terms .number) last else⏎Clear
-Refusals.beforeFigures | row 4 when badOutput o room else⏎dayRows o last d | rows-of dayRows o last d else⏎row 4 when badOutput o room else⏎Clear
-Refusals.dayRows | row 3 when badDayNumber last (d .terms .number) else⏎accountRows o d | rows-of accountRows o d else⏎row 3 when badDayNumber last (d .terms .number) else⏎Clear
-Register.accept | status = Open; held = o; days = [] | status = Open; held = o; days = cond (eqb (o .n) (g .held .n)) (g .days) []
-Register.accept | held = o; days = [] | held = withGroups o (cond (eqb (o .n) (g .held .n)) (g .held .groups) (o .groups)); days = []
-Register.step | ifAccepted (refusal g c) (accept g c) g | ifAccepted (refusal g c) (accept g c) (record { status = g .status; held = g .held; days = take 1 (g .days) })
-Rounding.roundDiv | (2 * p + q) / (2 * q) | cond (eqb ((2 * p + q) % (2 * q)) 0) ((2 * p + q) / (2 * q) / 2 * 2) ((2 * p + q) / (2 * q))
-Rounding.roundDiv | (2 * p + q) / (2 * q) | (2 * p + (q - 1)) / (2 * q)
-Text.signedOf | (below0 (numberOf (drop 1 f))) | (below0 (numberOf (take 13 (drop 1 f))))
-Text.kindOf | kindU 9 | kindU 3
-Text.kindOf | cond (same f (bytes "H")) | cond (same f (bytes "H") || same f (bytes "h"))
-Text.kindOf | cond (same f (bytes "R")) | cond (same f (bytes "R") || same f (bytes "r"))
-Text.kindOf | cond (same f (bytes "H")) | cond (same f (bytes "H") || same f (bytes "H\\r"))
-Text.kindOf | cond (same f (bytes "H")) | cond (same f (bytes "H") || same f [])
-Text.kindOf | cond (same f (bytes "H")) | cond (eqb (getD f 0 0) 72)
-Text.kindOf | cond (same f (bytes "R")) | cond (same f (bytes "R") || same f (bytes "1"))
-Text.kindOf | cond (same f (bytes "H")) | cond (same f (bytes "H") || same f (bytes "0"))
-Text.badBytes | any (ltb 127) line | ltb 127 (getD line 0 0)
-Text.numbersAfter | same (getD (fields line) 0 []) word | eqb (length (getD (fields line) 0 [])) (length word)
-Text.numbersAfter | same (getD (fields line) 0 []) word | same (take (length word) line) word
-Text.accountOf | same (getD fs 0 []) (bytes "acct") | eqb (length (getD fs 0 [])) 4
-Text.accountOf | same (getD fs 0 []) (bytes "acct") | same (take 4 line) (bytes "acct")
-Text.numbersAfter | same (getD (fields line) 0 []) word | same (getD (fields line) 0 []) (take (length (getD (fields line) 0 [])) word)
-Text.readPeriod | cond (nOutside n || kOutside k) (ends (refusedLine 1 i)) | cond false (ends (refusedLine 1 i))
-Text.readLine | cond (same l (bytes "end")) | cond (same (take 3 l) (bytes "end"))
+Day.group_of | (keep (λ m'. eqb (group_number o m') (group_number o m)) (members o.n)) | (take 2 (keep (λ m'. eqb (group_number o m') (group_number o m)) (members o.n)))
+Day.group_of | eqb (group_number o m') (group_number o m) | eqb (group_number o m' % 16) (group_number o m % 16)
+Member.part_c | Σ (keep is_aor_u accts) (λ a. eul a ⁺) | Σℤ (keep is_aor_u accts) eul ⁺
+Member.two_largest_of_r | map (λ a. eul a ⁺) (keep is_r accts) | map (λ a. eul a ⁺) (take 2 (keep is_r accts))
+Member.part_b | max (half_of_clients eul accts) (two_largest_of_r eul accts) | cond (ltb 1 (length (keep is_r accts))) (max (half_of_clients eul accts) (two_largest_of_r eul accts)) (half_of_clients eul accts)
+Refusals.bad_input | (count * (o.k + 1)))⏎|| not (eqb (length d.margins) count)⏎|| not (eqb (length d.extras) count) | (length d.margins * (o.k + 1)))⏎|| not (eqb (length d.margins) (length d.extras))
+Refusals.bad_amount | any npv_outside a.npvs | any npv_outside (take 3 a.npvs)
+Refusals.bad_amount | any npv_outside a.npvs | any npv_outside (take 16 a.npvs)
+Refusals.first_not_zero | not (eqb prev.member h.member) && | ltb 0 prev.member && not (eqb prev.member h.member) &&
+Refusals.member_skipped | ltb (prev.member + 1) h.member | eqb (prev.member + 2) h.member
+Refusals.day_rows | row 3 when bad_day_number last d.terms.number else⏎account_rows o d | row 3 when outside 1 31 d.terms.number else⏎rows_of account_rows o d else⏎row 3 when leb d.terms.number last else⏎Clear
+Refusals.before_figures | row 4 when bad_output o room else⏎day_rows o last d | rows_of day_rows o last d else⏎row 4 when bad_output o room else⏎Clear
+Refusals.day_rows | row 3 when bad_day_number last d.terms.number else⏎account_rows o d | rows_of account_rows o d else⏎row 3 when bad_day_number last d.terms.number else⏎Clear
+Register.accept | status = Open; held = o; days = [] | status = Open; held = o; days = cond (eqb o.n g.held.n) g.days []
+Register.accept | held = o; days = [] | held = with_groups o (cond (eqb o.n g.held.n) g.held.groups o.groups); days = []
+Register.step | if_accepted (refusal g c) (accept g c) g | if_accepted (refusal g c) (accept g c) (record { status = g.status; held = g.held; days = take 1 g.days })
+Rounding.round_div | (2 * p + q) / (2 * q) | cond (eqb ((2 * p + q) % (2 * q)) 0) ((2 * p + q) / (2 * q) / 2 * 2) ((2 * p + q) / (2 * q))
+Rounding.round_div | (2 * p + q) / (2 * q) | (2 * p + (q - 1)) / (2 * q)
+Text.signed_of | (below0 (number_of (drop 1 f))) | (below0 (number_of (take 13 (drop 1 f))))
+Text.kind_of | kind_u 9 | kind_u 3
+Text.kind_of | cond (same f (bytes "H")) | cond (same f (bytes "H") || same f (bytes "h"))
+Text.kind_of | cond (same f (bytes "R")) | cond (same f (bytes "R") || same f (bytes "r"))
+Text.kind_of | cond (same f (bytes "H")) | cond (same f (bytes "H") || same f (bytes "H\\r"))
+Text.kind_of | cond (same f (bytes "H")) | cond (same f (bytes "H") || same f [])
+Text.kind_of | cond (same f (bytes "H")) | cond (eqb (get_or f 0 0) 72)
+Text.kind_of | cond (same f (bytes "R")) | cond (same f (bytes "R") || same f (bytes "1"))
+Text.kind_of | cond (same f (bytes "H")) | cond (same f (bytes "H") || same f (bytes "0"))
+Text.bad_bytes | any (ltb 127) line | ltb 127 (get_or line 0 0)
+Text.numbers_after | same (get_or (fields line) 0 []) word | eqb (length (get_or (fields line) 0 [])) (length word)
+Text.numbers_after | same (get_or (fields line) 0 []) word | same (take (length word) line) word
+Text.account_of | same (get_or fs 0 []) (bytes "acct") | eqb (length (get_or fs 0 [])) 4
+Text.account_of | same (get_or fs 0 []) (bytes "acct") | same (take 4 line) (bytes "acct")
+Text.numbers_after | same (get_or (fields line) 0 []) word | same (get_or (fields line) 0 []) (take (length (get_or (fields line) 0 [])) word)
+Text.read_period | cond (n_outside n || k_outside k) (ends (refused_line 1 i)) | cond false (ends (refused_line 1 i))
+Text.read_line | cond (same l (bytes "end")) | cond (same (take 3 l) (bytes "end"))
 Text.sized | (day after) | (day g)
-Text.totals | ∷ columnSum 5 n out 4 ∷ [] | ∷ []
-Text.columnSum | Σ (members n) | Σ (members (n - 1))
-Text.columnSum | Σ (members n) | Σ (range 2 (n - 1))
-Text.dayLines | (totals n out) | (n ∷ totals n out)
-Text.dayLines | (totals n out) | (totals n (take 5 out))
-Text.dayLines | (totals n out) | (columnSum 5 n out 0 ∷ 1000000000000 ∷ drop 2 (totals n out))
-Text.dayLines | (totals n out) | (columnSum 5 n out 0 ∷ columnSum 5 n out 1 ∷ columnSum 5 n out 2 ∷ columnSum 5 n out 3 ∷ 2 * columnSum 5 n out 3 ∷ [])
-Text.dayLines | (totals n out) | (columnSum 5 n out 0 ∷ columnSum 5 n out 1 ∷ columnSum 5 n out 2 ∷ 11 * columnSum 5 n out 2 / 10 ∷ columnSum 5 n out 4 ∷ [])
-Text.dayLines | (totals n out) | (columnSum 5 n out 0 ∷ columnSum 5 n out 1 ∷ 100 * getD answer 1 0 ∷ drop 3 (totals n out))
-Text.sized | dayLines (d .terms .number) (after .held .n) (returned after call) (written after call) | printed (bytes "day") (d .terms .number ∷ returned after call) ++ rows (bytes "daily") 5 (after .held .n) (written after call) ++ printed (bytes "total") (totals (after .held .n) (flatMap (λ k. dailies (g .held) (reportedMaxEul (g .held) (g .days)) (k .accounts)) (take 1 (g .days))))
-Text.sized | dayLines (d .terms .number) (after .held .n) (returned after call) (written after call) | printed (bytes "day") (d .terms .number ∷ returned after call) ++ rows (bytes "daily") 5 (after .held .n) (written after call) ++ printed (bytes "total") (map (λ c. Σ (after .days) (λ k. columnSum 5 (after .held .n) (dailies (g .held) (reportedMaxEul (g .held) (after .days)) (k .accounts)) c)) (range 0 5))
-Text.followedBy | report ++ rest next | rest next
+Text.totals | ∷ column_sum 5 n out 4 ∷ [] | ∷ []
+Text.column_sum | Σ (members n) | Σ (members (n - 1))
+Text.column_sum | Σ (members n) | Σ (range 2 (n - 1))
+Text.day_lines | (totals n out) | (n ∷ totals n out)
+Text.day_lines | (totals n out) | (totals n (take 5 out))
+Text.day_lines | (totals n out) | (column_sum 5 n out 0 ∷ 1000000000000 ∷ drop 2 (totals n out))
+Text.day_lines | (totals n out) | (column_sum 5 n out 0 ∷ column_sum 5 n out 1 ∷ column_sum 5 n out 2 ∷ column_sum 5 n out 3 ∷ 2 * column_sum 5 n out 3 ∷ [])
+Text.day_lines | (totals n out) | (column_sum 5 n out 0 ∷ column_sum 5 n out 1 ∷ column_sum 5 n out 2 ∷ 11 * column_sum 5 n out 2 / 10 ∷ column_sum 5 n out 4 ∷ [])
+Text.day_lines | (totals n out) | (column_sum 5 n out 0 ∷ column_sum 5 n out 1 ∷ 100 * get_or answer 1 0 ∷ drop 3 (totals n out))
+Text.sized | day_lines d.terms.number after.held.n (returned after call) (written after call) | printed (bytes "day") (d.terms.number ∷ returned after call) ++ rows (bytes "daily") 5 after.held.n (written after call) ++ printed (bytes "total") (totals after.held.n (flat_map (λ k. dailies g.held (reported_max_eul g.held g.days) k.accounts) (take 1 g.days)))
+Text.sized | day_lines d.terms.number after.held.n (returned after call) (written after call) | printed (bytes "day") (d.terms.number ∷ returned after call) ++ rows (bytes "daily") 5 after.held.n (written after call) ++ printed (bytes "total") (map (λ c. Σ after.days (λ k. column_sum 5 after.held.n (dailies g.held (reported_max_eul g.held after.days) k.accounts) c)) (range 0 5))
+Text.followed_by | report ++ rest next | rest next
 """.strip().split("\n")]
 
 UNCHANGED = ": unchanged"
 
 # ---- reading a file of definitions
 
-TOKEN = re.compile(r'"(?:\\.|[^"])*"|[(){};,]|[^\s(){};,"]+')
-WORDS = {"let", "in", "=", ";", "row", "rows-of", "when", "else", ",", "{", "}", "record", ":", "→"}
+# A projection is a token for each of its names, as g, .held and .k in g.held.k.
+TOKEN = re.compile(r'"(?:\\.|[^"])*"|[(){};,]|(?<=[\w\'])\.[a-z]\w*|[a-z][\w\']*(?=\.[a-z])|[^\s(){};,"]+')
+WORDS = {"let", "in", "=", ";", "row", "rows_of", "when", "else", ",", "{", "}", "record", ":", "→"}
 INFIX = {"||", "&&", "+", "-", "*", "/", "%", "∷", "++", "+ℤ", "-ℤ", "over", "⊕", "⊗", "×", "≤", "<"}
 
 Token = namedtuple("Token", "text start end")
+
+
+def is_field(token):
+    return token.text.startswith(".") and len(token.text) > 1
+
+
+def said(tokens):
+    """With a blank between two, and none before a field."""
+    return "".join(" " * (i > 0 and not is_field(token)) + token.text for i, token in enumerate(tokens))
 
 
 def definitions(text):
@@ -236,8 +241,8 @@ def definitions(text):
 
 
 def sequences(tokens):
-    """The applications and operators of an expression: lists of items (a token, or a group in
-    parentheses), of one depth and between the words that part an expression."""
+    """The applications and operators of an expression: lists of items (a token, a projection, or a
+    group in parentheses), of one depth and between the words that part an expression."""
     out, stack = [], [[]]
     for token in tokens:
         if token.text == "(":
@@ -246,6 +251,8 @@ def sequences(tokens):
             group = stack.pop()
             out.append(group[1:])
             stack[-1].append(Token("(", group[0].start, token.end))
+        elif is_field(token) and stack[-1] and stack[-1][-1].end == token.start:
+            stack[-1].append(Token("(", stack[-1].pop().start, token.end))
         else:
             stack[-1].append(token)
     out += stack
@@ -296,7 +303,7 @@ def word_changes(tokens):
             if token.text in names:
                 for other in names:
                     if other != token.text:
-                        yield token, other
+                        yield token, " " * (is_field(token) and other[0] != ".") + other
 
 
 def order_changes(text, tokens):
@@ -318,8 +325,6 @@ def order_changes(text, tokens):
                 start, end = span([part[cut]])
                 for short in ("take 1", "take 2", "take 3", "drop 1"):
                     yield start, end, f"({short} {text[start:end]})"
-            if any(item.text.startswith(".") and item.text[1:] for item in part):
-                continue
             for one, two in zip(part[1:], part[2:]) if part[0].text not in COMMUTE else ():
                 if text[slice(*span([one]))] != text[slice(*span([two]))]:
                     yield one.start, two.end, text[two.start:two.end] + text[one.end:two.start] + text[one.start:one.end]
@@ -327,7 +332,7 @@ def order_changes(text, tokens):
 
 def row_changes(text):
     """A row of the refusal table dropped, or exchanged with the next."""
-    lines = list(re.finditer(r"    (?:row|rows-of) .*? else\n", text))
+    lines = list(re.finditer(r"    (?:row|rows_of) .*? else\n", text))
     for i, row in enumerate(lines):
         yield row.start(), row.end(), "", "row " + row.group().split()[1] + " dropped"
         if i + 1 < len(lines) and lines[i + 1].start() == row.end():
@@ -363,11 +368,10 @@ def wrong_definitions():
                 held = set()
                 for token, new in word_changes(tokens):
                     i = tokens.index(token)
-                    before = " ".join(t.text for t in tokens[max(0, i - 3):i])
-                    after = " ".join(t.text for t in tokens[i + 1:i + 3])
+                    before, after = said(tokens[max(0, i - 3):i]), said(tokens[i + 1:i + 3])
                     held.add((token.start, token.end, new))
                     add(path, token.start, token.end, new, definition,
-                        f"{before} [{token.text} → {new}] {after}")
+                        f"{before} [{token.text} → {new.strip()}] {after}")
                 for start, end, new in order_changes(text, tokens):
                     if (start, end, new) not in held and text[start:end] != new:
                         held.add((start, end, new))
@@ -386,7 +390,7 @@ def wrong_definitions():
 
 # ---- the check
 
-MODULE = re.compile(r"Rattle·(?:numbers|methodology)(?:·specs|·proofs)?\.(specs|proofs)\.(\w+)")
+MODULE = re.compile(r"Rattle\.(?:numbers|methodology)\.(specs|proofs)\.(\w+)")
 
 
 class Modules:
@@ -418,8 +422,8 @@ class Modules:
         """Writes these modules under names that begin with the mark, which they use among each
         other; all else they use of the modules without one."""
         for name in names:
-            text = MODULE.sub(lambda m: "Rattle·methodology·%s.%s.%s" % (
-                m[1], m[1], (mark if m[2] in names else "") + m[2]), texts.get(name, self.text[name]))
+            text = MODULE.sub(lambda m: "Rattle.methodology.%s.%s" % (
+                m[1], (mark if m[2] in names else "") + m[2]), texts.get(name, self.text[name]))
             with open(os.path.join(place, self.folder[name], mark + name + ".antt"), "w", encoding="utf8") as file:
                 file.write(text)
         return [(self.folder[name], mark + name) for name in names]
@@ -429,10 +433,12 @@ def checked(modules, wrongs):
     """Checks several wrong definitions at once, each with copies of all that rests on it. What
     becomes of each: held, by which table; let through; or no definition at all."""
     with tempfile.TemporaryDirectory() as top:
-        place = os.path.join(top, "methodology")
+        place = os.path.join(top, "crates", "methodology")
         for folder in ("src", "specs", "proofs"):
             os.makedirs(os.path.join(place, folder))
         shutil.copy(os.path.join(TOP, "methodology", "src", "lib.rt"), os.path.join(place, "src"))
+        with open(os.path.join(top, "crates.txt"), "w") as file:
+            file.write("methodology:\n")
         listed, marks = [], {}
         for number, wrong in enumerate(wrongs):
             name, mark = module_of(wrong), f"W{number}x"
@@ -444,8 +450,7 @@ def checked(modules, wrongs):
         for folder in ("specs", "proofs"):
             with open(os.path.join(place, folder, "Lib.antt"), "w") as file:
                 file.write("".join(f"pub mod {name}\n" for where, name in listed if where == folder))
-        done = subprocess.run(["rt", "check", place], cwd=top, stdout=subprocess.PIPE, stderr=subprocess.STDOUT,
-                              env=dict(os.environ, RT_CUT="400"))
+        done = subprocess.run(["rt", "check"], cwd=place, stdout=subprocess.PIPE, stderr=subprocess.STDOUT)
         said = done.stdout.decode(errors="replace")
     if done.returncode not in (0, 1):
         return None
@@ -477,7 +482,7 @@ def with_names(text, new):
     """The file with the names brought in that the change needs."""
     lines = text.split("\n")
     for name in FROM:
-        bare = name.strip("_")
+        bare = name.strip("◌")
         if not re.search(r"(?<![^\s()])" + re.escape(bare) + r"(?![^\s()])", new) and name not in new.split():
             continue
         if re.search(r"[{, ]" + re.escape(name) + r"[,}]", text) or re.search(
