@@ -32,7 +32,7 @@ def main():
     parser.add_argument("--definitions", action="store_true", help="the wrong definitions too")
     given = parser.parse_args()
     if not os.access(PROGRAM, os.X_OK):
-        sys.exit("target/bin/sizing is not there: rt check sizing builds it")
+        sys.exit("target/bin/sizing is not there: ./sizing builds it")
     checks = CHECKS + [["wrong_definitions.py"]] * given.definitions
     verdicts = [passed(*check) for check in checks]
     print(f"{verdicts.count(True)} passed, {verdicts.count(False)} failed")

@@ -14,15 +14,15 @@ import time
 
 TOP = os.path.join(os.path.dirname(os.path.abspath(__file__)), "..")
 PROGRAM = os.path.abspath(sys.argv[1])
-# It says that it ran, tells two crates as rt does, and builds or fails. It leaves the time of a program that stands there alone.
+# It says that it ran, tells two crates as rt does, and builds or fails. It leaves a program that stands there alone.
 RT = """#!/bin/sh
 echo ran >>"$RAN"
-echo "rt: numbers proved (unchanged since it was last proved)"
+echo "crate numbers: modules loaded=0 checked=72"
 echo "logic=proved"
-echo "rt: program proved (9 s)"
-[ "$FAILS" != proof ] || { echo "main.rt:1:1: error" >&2; exit 1; }
-[ -x target/bin/sizing ] || { mkdir -p target/bin && cp "$BUILT" target/bin/sizing; }
-[ "$FAILS" != run ] || { echo "rt: sizing proved, and its run FAILED"; exit 1; }
+echo "crate program: modules loaded=70 checked=9"
+[ "$FAILS" != proof ] || { echo "src/main.rt:1:1: error" >&2; exit 1; }
+[ -x out/sizing ] || { mkdir -p out && cp "$BUILT" out/sizing; }
+[ "$FAILS" != run ] || { echo "its run FAILED"; exit 1; }
 """
 verdicts = []
 
@@ -100,12 +100,12 @@ def main():
             run(path + " changed, once more", False)
         changed("crates/numbers/src/lib.rt")
         for time_of in ("first", "second"):
-            run(f"a broken crate, the {time_of} time", True, fails="proof", says=(f"sizing: crate 2 of {count}: program\n", "logic", "error"))
+            run(f"a broken crate, the {time_of} time", True, fails="proof", says=(f"sizing: crate {count - 1} of {count}: program\n", "logic", "error"))
         run("a crate that is whole again", True, command=os.path.join(place, "again"))
         shutil.rmtree(os.path.join(place, "top/target"))
         run("no program, a broken crate", True, fails="proof", says=("sizing: the first run", "error"))
         run("no program, a run that fails", True, fails="run", says=("sizing: the first run", "FAILED"))
-        run("a run that fails, once more", True, fails="run", says=("sizing: the program is older", "FAILED"))
+        run("a run that fails, once more", True, fails="run", says=("sizing: the first run", "FAILED"))
         shutil.rmtree(os.path.join(place, "top/target"))
         run("no program", True, says=("sizing: the first run", f"sizing: crate 1 of {count}: numbers\n"))
         run("no program, once more", False)

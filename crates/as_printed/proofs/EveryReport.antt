@@ -207,7 +207,7 @@ refusals_told text = (every_report text).all_told
 
 kept_after : {g : Register} → Kept g → (calls : List Call) → Kept (register_fed g calls)
 kept_after k [] = k
-kept_after k (c ∷ cs) = kept_after (call_fits k c).kept cs
+kept_after {g = g} k (c ∷ cs) = kept_after {g = step g c} (call_fits k c).kept cs
 
 pub as_printed : AsPrinted
 as_printed =

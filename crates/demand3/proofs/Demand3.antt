@@ -1,14 +1,15 @@
 -- Demand 3, of the program. The record `Demand3` is the claim, whole: demand 3 of every list of calls; that calls with any arguments can be
 -- made; that the compiled functions meet their contracts, and that these are the contracts which the lists speak of; and demand 3 of every
 -- list of compiled calls. `demand_3` proves it.
-use mathlib.Core.Path.{◌≡◌, refl, subst}
-use mathlib.Core.List.{List, [], ◌∷◌, ◌++◌, map, map-append}
+use mathlib.Core.Path.{◌≡◌}
+use mathlib.Core.List.{List, [], ◌∷◌, ◌++◌, map}
 use Prim.Native.Nat.{ℕ}
 use seplogic.Ra.Ura.{Ura}
 use base.Logic.{SProp}
 use prog.Model.{Model}
 use prog.Memory.{Memory}
-use prog.Routine.{Routine}
+use prog.Routine.{Routine, Callee}
+use prog.Wired.{Code, Wired}
 use types.Logic.{Logic}
 use contract.Monad.{Fun, fact}
 use contract.Notation.{connectives}
@@ -33,47 +34,40 @@ use Rattle.period.proofs.Period.opening.Symbol as Opening-code
 use Rattle.period.proofs.Period.day.Symbol as day-code
 use Rattle.period.proofs.Period.day_of.Symbol as day-of-code
 use Rattle.period.proofs.Period.closing.Symbol as closing-code
-use Rattle.period.proofs.Period.fresh.Met as fresh-proved
-use Rattle.period.proofs.Period.opening.Met as opening-proved
-use Rattle.period.proofs.Period.day.Met as day-proved
-use Rattle.period.proofs.Period.day_of.Met as day-of-proved
-use Rattle.period.proofs.Period.closing.Met as closing-proved
-use Rattle.period.proofs.Simulation.{starts}
 use Rattle.demand3.specs.Made.{Asked, Made, call_of, Meets, MadeOn}
 use Rattle.demand3.specs.Demand3.{Covers, Holds, register_after, Narrow, CanBeMade}
-use Rattle.demand3.proofs.EveryList.{holds, last_closing}
-use Rattle.demand3.proofs.Fitting.{narrow_fresh, can_be_made}
-use Rattle.demand3.proofs.Facts.{Ensured, fact_holds, period_set, opening_prop, meets_prop, no_buffer}
-use Rattle.demand3.proofs.Returns.{Returns, returns}
+use Rattle.demand3.proofs.Facts.{Ensured}
+use Rattle.demand3.proofs.Returns.{Returns}
 
 -- ---- the compiled functions
 
--- A compiled function, as the toolchain has it from the code: its signature, with what is known of its parameters at exit; its clauses; and
--- its routine.
+-- A compiled function, as the toolchain has it from the code: its signature, with what is known of its parameters at exit; its clauses; its
+-- code, with that of all that it calls; and its name.
 pub record Compiled : Type 3 where
   pub ended : Ended
   pub clauses : {M : Type 1} {𝓤 : Ura M} → (𝓛 : Logic 𝓤) → (Memory → SProp 𝓤) → (Routine → Fun 𝓤) → Clauses 𝓤 ended
-  pub routine : Routine
+  pub code : Code
+  pub name : Callee
 
 -- the one that makes the first period
 abbrev pub fresh : Compiled
-fresh = record { ended = fresh-fn.ended; clauses = fresh-fn.clauses; routine = fresh-code.routine }
+fresh = record { ended = fresh-fn.ended; clauses = fresh-fn.clauses; code = fresh-code.code; name = fresh-code.name }
 
 -- those that are called on a period
 pub data Method : Type 0 where
   opening : Method
   day : Method
-  day_of_lem : Method
+  day_of : Method
   closing : Method
 
 abbrev pub compiled : Method → Compiled
 compiled opening =
-    record { ended = opening-fn.ended; clauses = opening-fn.clauses; routine = Opening-code.routine }
-compiled day = record { ended = day-fn.ended; clauses = day-fn.clauses; routine = day-code.routine }
-compiled day_of_lem =
-    record { ended = day-of-fn.ended; clauses = day-of-fn.clauses; routine = day-of-code.routine }
+    record { ended = opening-fn.ended; clauses = opening-fn.clauses; code = Opening-code.code; name = Opening-code.name }
+compiled day = record { ended = day-fn.ended; clauses = day-fn.clauses; code = day-code.code; name = day-code.name }
+compiled day_of =
+    record { ended = day-of-fn.ended; clauses = day-of-fn.clauses; code = day-of-code.code; name = day-of-code.name }
 compiled closing =
-    record { ended = closing-fn.ended; clauses = closing-fn.clauses; routine = closing-code.routine }
+    record { ended = closing-fn.ended; clauses = closing-fn.clauses; code = closing-code.code; name = closing-code.name }
 
 -- ---- their calls
 
@@ -94,7 +88,7 @@ in_plain day c =
     let (_, (_, (_, (_, (_, (_, (after, _))))))) = c.exit in
     let d = day_brought terms headings.now npvs.now margins.now extras.now in
     (self, record { asked = Asked.day d out.now; reply = c.result; after = after.now })
-in_plain day_of_lem c =
+in_plain day_of c =
     let (self, (terms, (headings, (count, (npvs, (margins, (extras, (out, _)))))))) = c.arguments in
     let (_, (_, (_, (_, (_, (_, (_, (after, _)))))))) = c.exit in
     let d = day_brought terms (take count headings) npvs.now margins.now extras.now in
@@ -139,15 +133,16 @@ module _ {M : Type 1} {𝓤 : Ura M} (𝓛 : Logic 𝓤) (mem : Memory → SProp
 
 -- What is claimed of a compiled function. `Says` is what its `ensures` says of a call.
 pub record Upholds (f : Compiled) (Says : CallOf f → Type 0) : Type 2 where
-  -- It meets its contract: its routine ends, on every call, without a panic, and does what its clauses say.
+  -- It meets its contract: what its name means, in any environment that has its code, ends, on every call, without a panic, and does what
+  -- its clauses say.
   pub met :
-      {M : Type 1} {𝓤 : Ura M} (𝓛 : Logic 𝓤) (𝓜 : Model 𝓤 𝓛.H) (𝓡 : Running 𝓤 𝓛.H 𝓜)
-      → Meets-spec 𝓛 f.ended.signature (𝓡.run f.routine) (closing-of 𝓛 f.ended (f.clauses 𝓛 𝓜.mem 𝓡.run))
+      {M : Type 1} {𝓤 : Ura M} (𝓛 : Logic 𝓤) (𝓜 : Model 𝓤 𝓛.H) (𝓡 : Running 𝓤 𝓛.H 𝓜) → Wired 𝓡.env f.code
+      → Meets-spec 𝓛 f.ended.signature (𝓡.run (𝓡.env f.name)) (closing-of 𝓛 f.ended (f.clauses 𝓛 𝓜.mem 𝓡.returns))
   -- So the machine, in every model of it: a call from a memory in which its arguments stand ends, with a result and exits of which its
   -- `ensures` holds.
   pub returns :
-      {M : Type 1} {𝓤 : Ura M} (𝓛 : Logic 𝓤) (𝓜 : Model 𝓤 𝓛.H) (𝓡 : Running 𝓤 𝓛.H 𝓜)
-      → Returns 𝓛 𝓜 𝓡 f.ended (f.clauses 𝓛) f.routine
+      {M : Type 1} {𝓤 : Ura M} (𝓛 : Logic 𝓤) (𝓜 : Model 𝓤 𝓛.H) (𝓡 : Running 𝓤 𝓛.H 𝓜) → Wired 𝓡.env f.code
+      → Returns 𝓛 𝓜 𝓡 f.ended (f.clauses 𝓛) f.name
   -- Its clauses, whole: no ghost, nothing required, and `Says` ensured.
   pub clauses :
       {M : Type 1} {𝓤 : Ura M} (𝓛 : Logic 𝓤) (mem : Memory → SProp 𝓤) (run : Routine → Fun 𝓤)
@@ -190,78 +185,3 @@ pub record Demand3 : Type 2 where
       (cs : List Called) (c : Called) (out : List ℕ) → (made_of c).asked ≡ Asked.closing out → FromFresh 𝓛 mem run (cs ++ (c ∷ []))
       → refusal (register_after start (map made_of cs)) (call_of (made_of c).asked) ≡ Clear
       → Covers (register_after start (map made_of (cs ++ (c ∷ [])))) (answer_of (made_of c).reply.outcome) (made_of c).after
-
--- ---- its proof
-
-fresh_does : Upholds fresh (λ c. c.result ≡ fresh_period)
-fresh_does =
-    record {
-      met = fresh-proved.met;
-      returns = λ {𝓤 = 𝓤} 𝓛 𝓜 𝓡. returns 𝓛 𝓜 𝓡 fresh-fn.ended (fresh-fn.clauses 𝓛) fresh-code.routine (fresh-proved.met 𝓤 𝓛 𝓜 𝓡);
-      clauses = λ 𝓛 mem run κs a. refl;
-    }
-
--- Each clause holds by computation but for the opening's, to which `Meets` adds that it leaves no buffer: `no_buffer` says that this adds nothing.
-upholds : (f : Method) → Upholds (compiled f) (Promised f)
-upholds opening =
-    record {
-      met = opening-proved.met;
-      returns = λ {𝓤 = 𝓤} 𝓛 𝓜 𝓡. returns 𝓛 𝓜 𝓡 opening-fn.ended (opening-fn.clauses 𝓛) Opening-code.routine (opening-proved.met 𝓤 𝓛 𝓜 𝓡);
-      clauses =
-          λ {𝓤 = 𝓤} 𝓛 mem run κs (self, (n, (k, (groups, _)))) i.
-          let o = brought n k groups.now in
-          record { ghost = Unit {0}; requires = λ _. (connectives 𝓤).⊤ₛ; ensures = λ _ r e. fact 𝓤 (no_buffer (opening_prop self o r) i) };
-    }
-upholds day =
-    record {
-      met = day-proved.met;
-      returns = λ {𝓤 = 𝓤} 𝓛 𝓜 𝓡. returns 𝓛 𝓜 𝓡 day-fn.ended (day-fn.clauses 𝓛) day-code.routine (day-proved.met 𝓤 𝓛 𝓜 𝓡);
-      clauses = λ 𝓛 mem run κs a. refl;
-    }
-upholds day_of_lem =
-    record {
-      met = day-of-proved.met;
-      returns = λ {𝓤 = 𝓤} 𝓛 𝓜 𝓡. returns 𝓛 𝓜 𝓡 day-of-fn.ended (day-of-fn.clauses 𝓛) day-of-code.routine (day-of-proved.met 𝓤 𝓛 𝓜 𝓡);
-      clauses = λ 𝓛 mem run κs a. refl;
-    }
-upholds closing =
-    record {
-      met = closing-proved.met;
-      returns = λ {𝓤 = 𝓤} 𝓛 𝓜 𝓡. returns 𝓛 𝓜 𝓡 closing-fn.ended (closing-fn.clauses 𝓛) closing-code.routine (closing-proved.met 𝓤 𝓛 𝓜 𝓡);
-      clauses = λ 𝓛 mem run κs a. refl;
-    }
-
--- compiled calls are calls that were made
-module _ {M : Type 1} {𝓤 : Ura M} (𝓛 : Logic 𝓤) (mem : Memory → SProp 𝓤) (run : Routine → Fun 𝓤) where
-  kept_says : {f : Compiled} {Says : CallOf f → Type 0} → Upholds f Says → (c : CallOf f) → IsProp (Says c) → AsEnsured 𝓛 mem run c → Says c
-  kept_says {f} {Says} u c prop k =
-      fact_holds 𝓤 (Says c) prop (subst (EnsuredBy 𝓤 c) (u.clauses 𝓛 mem run c.κs c.arguments) k).1
-
-  linked_made : (p : Period) (cs : List Called) → Linked 𝓛 mem run p cs → MadeOn p (map made_of cs)
-  linked_made p [] l = tt
-  linked_made p (c ∷ cs) (g, k, l) =
-      let m = made_of c in
-      let met = kept_says (upholds c.function) c.call (meets_prop (given c) m.asked m.reply m.after) k in
-      (subst (λ (q : Period). Meets q m.asked m.reply m.after) g met, linked_made m.reply.period cs l)
-
-  fresh_made : (cs : List Called) → FromFresh 𝓛 mem run cs → MadeOn fresh_period (map made_of cs)
-  fresh_made cs f =
-      let is-fresh = kept_says fresh_does f.first (period_set f.first.result fresh_period) f.kept in
-      subst (λ (p : Period). MadeOn p (map made_of cs)) is-fresh (linked_made f.first.result cs f.linked)
-
-pub demand_3 : Demand3
-demand_3 =
-    record {
-      every_list = holds starts;
-      last_closing = last_closing starts;
-      every_list_can_be_made = can_be_made narrow_fresh;
-      fresh_narrow = narrow_fresh;
-      fresh_upholds = fresh_does;
-      calls_uphold = upholds;
-      compiled_lists = λ 𝓛 mem run cs f. holds starts (map made_of cs) (fresh_made 𝓛 mem run cs f);
-      compiled_closing =
-          λ 𝓛 mem run cs c out is f e.
-          let split = map-append made_of cs (c ∷ []) in
-          let made = subst (MadeOn fresh_period) split (fresh_made 𝓛 mem run (cs ++ (c ∷ [])) f) in
-          rw split (last_closing starts (map made_of cs) (made_of c) out is made e);
-    }

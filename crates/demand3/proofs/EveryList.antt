@@ -70,16 +70,17 @@ one {g} f c m =
 
 pub holds : {g : Register} {p : Period} → Follows g p → (cs : List Made) → MadeOn p cs → Holds g cs
 holds f [] m = tt
-holds f (c ∷ cs) (m, ms) =
+holds {g = g} {p = p} f (c ∷ cs) (m, ms) =
     let (f', a, k) = one f c m in
-    (a, k, holds f' cs ms)
+    (a, k, holds {g = step g (call_of c.asked)} {p = c.reply.period} f' cs ms)
 
 -- where the last call is an accepted closing
 pub last_closing : {g : Register} {p : Period} → Follows g p → (cs : List Made) (c : Made) (out : List ℕ) → c.asked ≡ Asked.closing out
     → MadeOn p (cs ++ (c ∷ [])) → refusal (register_after g cs) (call_of c.asked) ≡ Clear
     → Covers (register_after g (cs ++ (c ∷ []))) (answer_of c.reply.outcome) c.after
 last_closing f [] c out is (m, _) e = (one f c m).2 out is e
-last_closing f (b ∷ cs) c out is (m, ms) e = last_closing (one f b m).0 cs c out is ms e
+last_closing {g = g} {p = p} f (b ∷ cs) c out is (m, ms) e =
+    last_closing {g = step g (call_of b.asked)} {p = b.reply.period} (one f b m).0 cs c out is ms e
 
 -- demand 3 of the calls after the first ones, so that the last of a list agrees with the register that the others have left
 pub holds_from : (g : Register) (cs ds : List Made) → Holds g (cs ++ ds) → Holds (register_after g cs) ds

@@ -25,7 +25,6 @@ use Rattle.methodology.proofs.RowLimits.{at_most_9, RowFew, opening_few, day_few
 use Rattle.quotient.specs.Ranges.{greatest_total}
 use Rattle.validation.specs.Slices.{in_places}
 use Rattle.validation.proofs.OpeningPasses.{opening_leaves}
-use Rattle.validation.proofs.DayPasses.{sized}
 use Rattle.period.specs.declared.Period.{Period}
 use Rattle.period.specs.declared.Outcome.{Outcome}
 use Rattle.period.specs.declared.Outcome.TheVariants as says
@@ -225,7 +224,7 @@ can_be_made q [] = record { calls = []; same = refl; made = tt; fits = tt }
 can_be_made {p} q (a ∷ rest) =
     let (r, after, m) = makes p a in
     let f = fits q a r after m in
-    let t = can_be_made f.period rest in
+    let t = can_be_made {p = r.period} f.period rest in
     record {
       calls = record { asked = a; reply = r; after = after } ∷ t.calls;
       same = ap (λ (l : List Asked). a ∷ l) t.same;

@@ -5,3 +5,4 @@ pub mod RegisterFits
 pub mod Facts
 pub mod Returns
 pub mod Demand3
+pub mod Demand3Proved

@@ -22,7 +22,7 @@ use Rattle.exposure.specs.Scenario.{fall_under}
 
 -- an NPV that is read from a slice is the slice's
 pub npv_back : {row : List ℤ} → Npvs row → (x : ℕ) → x < length row → to_z w64 (of_z w64 (get_or row x (pos 0))) ≡ get_or row x (pos 0)
-npv_back {row} p x h = back (fits_abs (get_or row x (pos 0)) (omega (arith, p.at x h)))
+npv_back {row} p x h = back {w = w64} (fits_abs (get_or row x (pos 0)) (omega (arith, p.at x h)))
 
 -- no decrease is above twice the limit
 decrease_le : {row : List ℤ} {j : ℕ} → Npvs row → j < length row → decrease row j ≤ 2 * limit

@@ -23,7 +23,7 @@ use Rattle.exposure.specs.GroupRows.{row_of, plus, Near, with_row}
 
 -- numbers far from the ends of 64 bits: read back as they are, and two of them may be added
 pub near_back : {row : List ℤ} → Near row → (x : ℕ) → to_z w64 (of_z w64 (get_or row x (pos 0))) ≡ get_or row x (pos 0)
-near_back {row} n x = back (fits_abs (get_or row x (pos 0)) (omega (arith, n.at x)))
+near_back {row} n x = back {w = w64} (fits_abs (get_or row x (pos 0)) (omega (arith, n.at x)))
 
 pub sum_fits : {a b : List ℤ} → Near a → Near b → (x : ℕ) → SFits w64 (get_or a x (pos 0) +ℤ get_or b x (pos 0))
 sum_fits {a} {b} n m x =

@@ -6,6 +6,7 @@
 use methodology::DayTerms;
 use period::{Outcome, Period};
 use printing::put_rows;
+use std::io;
 
 // A period that is open, with these groups and k scenarios.
 fn opened(groups: &[u64], k: u64) -> Period {
@@ -16,6 +17,7 @@ fn opened(groups: &[u64], k: u64) -> Period {
 
 // A day: the figure's number, T and Max EUL, then each member's five numbers. The period is handed back.
 fn size(
+    rt: &impl Print,
     figure: u64,
     period: Period,
     number: u64,
@@ -26,7 +28,7 @@ fn size(
     margins: &[u64],
     extras: &[u64],
     out: &mut [u64],
-) -> Period {
+) -> io::Result<Period> {
     let headings = headings::pack(members, numbers, kinds);
     let reply = period.day_of(
         DayTerms { number },
@@ -39,24 +41,24 @@ fn size(
     );
     let outcome = reply.outcome;
     if let Outcome::Sized(total, top) = outcome {
-        put_rows(&[figure, total, top], 3);
+        put_rows(rt, &[figure, total, top], 3)?;
     }
-    put_rows(out, 5);
-    reply.period
+    put_rows(rt, out, 5)?;
+    Ok(reply.period)
 }
 
 // The closing: D, M and the total funded, then each member's three numbers.
-fn close(period: Period, out: &mut [u64]) {
+fn close(rt: &impl Print, period: Period, out: &mut [u64]) -> io::Result<()> {
     let reply = period.closing(out);
     let outcome = reply.outcome;
     if let Outcome::Closed(days, highest, funds) = outcome {
-        put_rows(&[days, highest, funds], 3);
+        put_rows(rt, &[days, highest, funds], 3)?;
     }
-    put_rows(out, 3);
+    put_rows(rt, out, 3)
 }
 
 // Figures 1 and 2: the six members of 001, the first one's margin as given.
-fn illustrative(figure: u64, margin: u64) {
+fn illustrative(rt: &impl Print, figure: u64, margin: u64) -> io::Result<()> {
     let groups = [0u64; 6];
     let members = [1u64, 2, 3, 4, 5, 6];
     let zeros = [0u64; 6];
@@ -64,6 +66,7 @@ fn illustrative(figure: u64, margin: u64) {
     let margins = [margin, 100, 250, 300, 400, 200];
     let mut out = [0u64; 30];
     size(
+        rt,
         figure,
         opened(&groups, 1),
         1,
@@ -74,11 +77,12 @@ fn illustrative(figure: u64, margin: u64) {
         &margins,
         &zeros,
         &mut out,
-    );
+    )?;
+    Ok(())
 }
 
 // Figure 3: house -40; R 60, 50, 30, -25; U 20; A 10.
-fn all_kinds() {
+fn all_kinds(rt: &impl Print) -> io::Result<()> {
     let members = [1u64; 7];
     let numbers = [0u64, 1, 2, 3, 4, 5, 6];
     let kinds = [0u64, 1, 1, 1, 1, 3, 2];
@@ -87,6 +91,7 @@ fn all_kinds() {
     let extras = [0u64; 7];
     let mut out = [0u64; 5];
     size(
+        rt,
         3,
         opened(&[0u64], 1),
         1,
@@ -97,11 +102,12 @@ fn all_kinds() {
         &margins,
         &extras,
         &mut out,
-    );
+    )?;
+    Ok(())
 }
 
 // Figure 4: house 0; R 10, 10; U 100.
-fn half_of_all_clients() {
+fn half_of_all_clients(rt: &impl Print) -> io::Result<()> {
     let members = [1u64; 4];
     let numbers = [0u64, 1, 2, 3];
     let kinds = [0u64, 1, 1, 3];
@@ -109,6 +115,7 @@ fn half_of_all_clients() {
     let zeros = [0u64; 4];
     let mut out = [0u64; 5];
     size(
+        rt,
         4,
         opened(&[0u64], 1),
         1,
@@ -119,11 +126,12 @@ fn half_of_all_clients() {
         &zeros,
         &zeros,
         &mut out,
-    );
+    )?;
+    Ok(())
 }
 
 // Figure 5: house 0; R five times 3.
-fn half_dollar() {
+fn half_dollar(rt: &impl Print) -> io::Result<()> {
     let members = [1u64; 6];
     let numbers = [0u64, 1, 2, 3, 4, 5];
     let kinds = [0u64, 1, 1, 1, 1, 1];
@@ -131,6 +139,7 @@ fn half_dollar() {
     let zeros = [0u64; 6];
     let mut out = [0u64; 5];
     size(
+        rt,
         5,
         opened(&[0u64], 1),
         1,
@@ -141,17 +150,19 @@ fn half_dollar() {
         &zeros,
         &zeros,
         &mut out,
-    );
+    )?;
+    Ok(())
 }
 
 // Figure 6: Affiliates 100 and -30 under one scenario.
-fn affiliate_covered() {
+fn affiliate_covered(rt: &impl Print) -> io::Result<()> {
     let members = [1u64, 2];
     let zeros = [0u64; 2];
     let npvs = [100i64, 0, 0, 0];
     let margins = [0u64, 30];
     let mut out = [0u64; 10];
     size(
+        rt,
         6,
         opened(&[1u64, 1], 1),
         1,
@@ -162,16 +173,18 @@ fn affiliate_covered() {
         &margins,
         &zeros,
         &mut out,
-    );
+    )?;
+    Ok(())
 }
 
 // Figure 7: Affiliates 100 and 80, a third member 150.
-fn affiliates_above_a_third() {
+fn affiliates_above_a_third(rt: &impl Print) -> io::Result<()> {
     let members = [1u64, 2, 3];
     let zeros = [0u64; 3];
     let npvs = [100i64, 0, 80, 0, 150, 0];
     let mut out = [0u64; 15];
     size(
+        rt,
         7,
         opened(&[1u64, 1, 0], 1),
         1,
@@ -182,16 +195,18 @@ fn affiliates_above_a_third() {
         &zeros,
         &zeros,
         &mut out,
-    );
+    )?;
+    Ok(())
 }
 
 // Figure 8: Affiliates, one losing 100 under 1 only, the other 80 under 2 only.
-fn scenarios_apart() {
+fn scenarios_apart(rt: &impl Print) -> io::Result<()> {
     let members = [1u64, 2];
     let zeros = [0u64; 2];
     let npvs = [100i64, 0, 100, 80, 80, 0];
     let mut out = [0u64; 10];
     size(
+        rt,
         8,
         opened(&[1u64, 1], 2),
         1,
@@ -202,16 +217,18 @@ fn scenarios_apart() {
         &zeros,
         &zeros,
         &mut out,
-    );
+    )?;
+    Ok(())
 }
 
 // Figure 9: one day, three losses of 200,000,000.
-fn three_alike() {
+fn three_alike(rt: &impl Print) -> io::Result<()> {
     let members = [1u64, 2, 3];
     let zeros = [0u64; 3];
     let npvs = [200_000_000i64, 0, 200_000_000, 0, 200_000_000, 0];
     let mut out = [0u64; 15];
     let period = size(
+        rt,
         9,
         opened(&zeros, 1),
         1,
@@ -222,40 +239,46 @@ fn three_alike() {
         &zeros,
         &zeros,
         &mut out,
-    );
+    )?;
     let mut due = [0u64; 9];
-    close(period, &mut due);
+    close(rt, period, &mut due)
 }
 
 // A day of two members with the given losses.
-fn two_members(period: Period, number: u64, first: i64, second: i64) -> Period {
+fn two_members(
+    rt: &impl Print,
+    period: Period,
+    number: u64,
+    first: i64,
+    second: i64,
+) -> io::Result<Period> {
     let members = [1u64, 2];
     let zeros = [0u64; 2];
     let npvs = [first, 0, second, 0];
     let mut out = [0u64; 10];
     size(
-        10, period, number, &members, &zeros, &zeros, &npvs, &zeros, &zeros, &mut out,
+        rt, 10, period, number, &members, &zeros, &zeros, &npvs, &zeros, &zeros, &mut out,
     )
 }
 
 // Figure 10: days (100m, 100m) and (0, 600m), of which the second has the higher Max EUL.
-fn two_days() {
+fn two_days(rt: &impl Print) -> io::Result<()> {
     let open = opened(&[0u64, 0], 1);
-    let first = two_members(open, 1, 100_000_000, 100_000_000);
-    let second = two_members(first, 2, 0, 600_000_000);
+    let first = two_members(rt, open, 1, 100_000_000, 100_000_000)?;
+    let second = two_members(rt, first, 2, 0, 600_000_000)?;
     let mut due = [0u64; 6];
-    close(second, &mut due);
+    close(rt, second, &mut due)
 }
 
-fn main() {
-    illustrative(1, 550);
-    illustrative(2, 700);
-    all_kinds();
-    half_of_all_clients();
-    half_dollar();
-    affiliate_covered();
-    affiliates_above_a_third();
-    scenarios_apart();
-    three_alike();
-    two_days();
+fn main(rt: HostRuntime) -> io::Result<()> {
+    illustrative(&rt, 1, 550)?;
+    illustrative(&rt, 2, 700)?;
+    all_kinds(&rt)?;
+    half_of_all_clients(&rt)?;
+    half_dollar(&rt)?;
+    affiliate_covered(&rt)?;
+    affiliates_above_a_third(&rt)?;
+    scenarios_apart(&rt)?;
+    three_alike(&rt)?;
+    two_days(&rt)
 }

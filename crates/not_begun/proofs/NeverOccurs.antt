@@ -13,7 +13,8 @@ use Rattle.methodology.specs.Text.{report_of}
 use Rattle.methodology.proofs.RowLimits.{occurs, RowFew, refusal_few}
 use Rattle.demand3.specs.Made.{Made, call_of}
 use Rattle.demand3.specs.Demand3.{Agrees, Holds}
-use Rattle.demand3.proofs.Demand3.{made_of, demand_3}
+use Rattle.demand3.proofs.Demand3.{made_of}
+use Rattle.demand3.proofs.Demand3Proved.{demand_3}
 use Rattle.as_printed.specs.AsPrinted.{lines_of}
 use Rattle.as_printed.proofs.DayShown.{Told}
 use Rattle.as_printed.proofs.EveryReport.{refusals_told}

@@ -28,7 +28,8 @@ use Rattle.period.specs.Calls.{fresh_period}
 use Rattle.demand3.specs.Made.{Asked, Made, call_of, MadeOn}
 use Rattle.demand3.specs.Demand3.{Holds, register_after}
 use Rattle.demand3.proofs.EveryList.{last_agrees, after_one, from_answers_lem}
-use Rattle.demand3.proofs.Demand3.{made_of, demand_3}
+use Rattle.demand3.proofs.Demand3.{made_of}
+use Rattle.demand3.proofs.Demand3Proved.{demand_3}
 use Rattle.answers.proofs.RefusalRows.{is_clear}
 use Rattle.as_printed.proofs.DaySums.{stretch_is}
 use Rattle.not_begun.specs.NotBegun.{NoAcceptedDay, AsNotBegun, closed_from, ClosedAt, after_accepted, days_answered, text_of, fund_of, NotBegun}

@@ -4,6 +4,5 @@ pub mod InRange
 pub mod Sizing
 pub mod Closings
 mod DayInColumns
-mod PassedOn
 pub mod Reach
 pub mod Simulation

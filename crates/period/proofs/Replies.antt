@@ -1,6 +1,6 @@
 -- Replies by what the refusal table says.
-use mathlib.Core.Path.{◌≡◌, refl, sym, ◌∙◌}
-use mathlib.Core.Bool.{true, false, true≢false}
+use mathlib.Core.Path.{◌≡◌, refl, sym, ap, ◌∙◌}
+use mathlib.Core.Bool.{Bool, true, false, true≢false}
 use mathlib.Core.List.{List, [], flat_map}
 use Prim.Native.Nat.{ℕ}
 use lib.Dec.{eqb}
@@ -9,6 +9,7 @@ use borrow.Author.Tests.{ne_eqb}
 use Rattle.numbers.specs.Sums.{Σ}
 use Rattle.methodology.specs.declared.Refusal.{Refusal}
 use Rattle.methodology.specs.declared.Refusal.TheVariants.{Clear, Row, RowAt}
+use Rattle.methodology.specs.declared.Status.{Status}
 use Rattle.methodology.specs.declared.Status.TheVariants.{Open}
 use Rattle.methodology.specs.declared.Opening.{Opening}
 use Rattle.methodology.specs.Account.{with_groups, DayInput}
@@ -47,6 +48,10 @@ pub none_met : (x : Refusal) → is_refused x ≡ false → x ≡ Clear
 none_met Clear f = refl
 none_met (Row number) f = absurd (true≢false f)
 none_met (RowAt number index) f = absurd (true≢false f)
+
+-- what `is_open` finds of the status that counts
+pub open_as_found : (p : Period) {s : Status} {r b : Bool} → s ≡ status_of p → r ≡ is_open s → r ≡ b → is_open (status_of p) ≡ b
+open_as_found p e o t = ap is_open (sym e) ∙ sym o ∙ t
 
 -- the rows before a day's figures, and row 7
 split_off : (p : Period) (d : DayInput) (room : ℕ)

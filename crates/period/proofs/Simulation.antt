@@ -1,6 +1,6 @@
 -- The period that calls have left is the register's, and each call says and writes what the register does.
 -- Every field is a function of what the register holds, `period_of`; so each call is one equation for the period after it.
-use mathlib.Core.Path.{◌≡◌, refl, sym, ap, subst, ◌∙◌}
+use mathlib.Core.Path.{◌≡◌, refl, sym, ap, ap₂, subst, ◌∙◌}
 use mathlib.Core.Bool.{Bool, true, false, cond}
 use mathlib.Core.List.{List, [], ◌∷◌, map, flat_map, map-map}
 use Prim.Native.Nat.{ℕ, suc, ◌+◌, ◌<◌, max}
@@ -20,6 +20,7 @@ use Rattle.methodology.specs.Account.{with_groups, DayInput, Account, members, a
 use Rattle.methodology.specs.Member.{loss}
 use Rattle.methodology.specs.Day.{total, own_max_eul, share, dailies}
 use Rattle.methodology.specs.Contribution.{KeptDay, reported_max_eul, highest, sum_of_shares, funded, three}
+use Rattle.methodology.specs.declared.Status.{Status}
 use Rattle.methodology.specs.Refusals.{is_open, opening_refusal, before_figures, day_refusal, closing_refusal}
 use Rattle.methodology.specs.Register.{Call, Register, start, last_number, refusal, accept, if_accepted, step, returned, written, Answer, accepted, answer_by, answer, buffer}
 use Rattle.methodology.proofs.SoFar.{reported_is_m, reported_more}
@@ -134,12 +135,18 @@ opening_follows {g} {p} {o} f m =
 pub held_by_lem : {g : Register} {p : Period} → Follows g p → held_by p ≡ g.held
 held_by_lem {g} f = ap held_by f.is ∙ held_is g f.good
 
+-- of the status a day's rows ask whether it is open, and no more
+day_alike : (s t : Status) (o : Opening) (last : ℕ) (d : DayInput) (room : ℕ) → is_open s ≡ is_open t
+    → day_refusal s o last d room ≡ day_refusal t o last d room
+unfolding day_refusal before_figures
+day_alike s t o last d room e = rw e refl
+
 pub day_row_lem : {g : Register} {p : Period} → Follows g p → (d : DayInput) (room : ℕ) → day_row p d room ≡ refusal g (Call.day d room)
-unfolding day_row refusal day_refusal before_figures period_of
+unfolding day_row refusal period_of
 day_row_lem {g} {p} f d room =
-    let o = held_by_lem f in
     let l : p.accrued.last ≡ last_number g.days = ap (λ (p : Period). p.accrued.last) f.is in
-    rw (open_alike f, o, l)
+    ap₂ (λ (o : Opening) (last : ℕ). day_refusal (status_of p) o last d room) (held_by_lem f) l
+    ∙ day_alike (status_of p) g.status g.held (last_number g.days) d room (open_alike f)
 
 -- the day that is kept
 module _ (g : Register) (q : Good g) (d : DayInput) where

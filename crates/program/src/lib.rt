@@ -1,34 +1,34 @@
 // The program: reads a month's text and writes its report to standard output. Where a read or a write fails it says so on standard error, so
-// that no part of a text passes for the whole. The text comes from a descriptor that the caller names: standard input, or in a test none.
+// that no part of a text passes for the whole. The text comes from a reader that the caller names: standard input, or in a test one that fails.
 #![tactic(auto)]
 
-ghost use Rattle.std.specs.Prelude.{true, false, List, ◌≡◌, ℕ, ◌≤◌, length, take};
-ghost use Rattle.io.specs.Counts.{clamp_len};
-ghost use Rattle.lines.specs.Forms.{is_negative};
+ghost use Rattle.std.specs.Prelude.{true, false, List, ◌≡◌, ℕ, ◌≤◌, length, min, take, is_err};
+ghost use Rattle.std.specs.Result.{result_unwrap_or};
 ghost use Rattle.methodology.specs.Text.{report_of};
 
-use libc::{STDERR_FILENO, STDOUT_FILENO};
+use std::io;
+use std::io::Read;
 
 // The most that one read asks for, and what a pipe holds. A file too is then read in pieces, so that the gate, which runs the programs on
 // files, sees a piece that is lost or misplaced.
 const PIECE: usize = 65_536;
 
 // How many bytes stand in the buffer. `failed` tells a read that failed, so that it does not pass for the input's end.
-#[derive(Drop)]
+#[derive(Clone, Copy)]
 pub struct Input {
     pub failed: bool,
     pub bytes: usize,
 }
 
-// What one read brought, by what libc's answered: a negative number where it failed, 0 where the input has ended.
-fn read_result(got: isize, text: &[u8]) -> Input
-    ensures failed_value { result.failed ≡ is_negative got }
-    ensures bytes_value { result.bytes ≡ clamp_len got (length text.now) }
+// What one read brought, by what it answered: an error where it failed, 0 where the input has ended.
+fn read_result(got: io::Result<usize>, text: &[u8]) -> Input
+    ensures failed_value { result.failed ≡ is_err got }
+    ensures bytes_value { result.bytes ≡ min (result_unwrap_or got 0) (length text.now) }
     ensures bytes_in_bounds { result.bytes ≤ length text.now }
 {
     Input {
-        failed: got < 0,
-        bytes: io::count(got, text),
+        failed: got.is_err(),
+        bytes: got.unwrap_or(0).min(text.len()),
     }
 }
 
@@ -40,16 +40,16 @@ fn piece(room: usize) -> usize
 }
 
 // One read, of a piece at most.
-fn read_some(from: i32, text: &mut [u8]) -> Input
+fn read_some<R: Read>(from: &mut R, text: &mut [u8]) -> Input
     ensures { result.bytes ≤ length text.new }
 {
     let end = piece(text.len());
-    let got = libc::read(from, &mut text[0..end]);
+    let got = from.read(&mut text[0..end]);
     read_result(got, text)
 }
 
 // Reads until the input ends or the buffer is full.
-pub fn read_all(from: i32, text: &mut [u8]) -> Input
+pub fn read_all<R: Read>(from: &mut R, text: &mut [u8]) -> Input
     ensures { result.bytes ≤ length text.new }
 {
     let mut done: usize = 0;
@@ -85,29 +85,31 @@ fn report_of(text: &[u8], input: Input, out: &mut [u8]) -> usize
     month::report(&text[0..n], out)
 }
 
-fn answer(from: i32, text: &mut [u8], out: &mut [u8])
+fn answer<R: Read>(rt: &(impl Print + Eprint), from: &mut R, text: &mut [u8], out: &mut [u8])
     requires { (length text.old ≡ 2162688) × (length out.old ≡ 147456) }
 {
     let input = read_all(from, text);
     if input.failed {
-        io::write_all(STDERR_FILENO, b"sizing: standard input cannot be read\n");
+        let _ = rt.eprint("sizing: standard input cannot be read\n");
     }
     let end = report_of(text, input, out);
-    if !io::write_all(STDOUT_FILENO, &out[0..end]) {
-        io::write_all(
-            STDERR_FILENO,
-            b"sizing: standard output cannot be written\n",
-        );
+    if rt.write_all(&out[0..end]).is_err() {
+        let _ = rt.eprint("sizing: standard output cannot be written\n");
     }
 }
 
 // Between arrays and slices: lent by its type, an array has its length without counting it.
-fn lend(from: i32, text: &mut [u8; 2162688], out: &mut [u8; 147456]) {
-    answer(from, text, out);
+fn lend<R: Read>(
+    rt: &(impl Print + Eprint),
+    from: &mut R,
+    text: &mut [u8; 2162688],
+    out: &mut [u8; 147456],
+) {
+    answer(rt, from, text, out);
 }
 
-pub fn run(from: i32) {
+pub fn run<R: Read>(rt: &(impl Print + Eprint), from: &mut R) {
     let mut text = [0; 2162688];
     let mut out = [0; 147456];
-    lend(from, &mut text, &mut out);
+    lend(rt, from, &mut text, &mut out);
 }

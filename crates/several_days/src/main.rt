@@ -1,12 +1,20 @@
 // The program once more, for the gate: on an input that cannot be read, of which no report may come, then on a month of several days.
 #![tactic(auto)]
 
-use libc::STDIN_FILENO;
+use std::io;
+use std::io::Read;
 
-// No file has this descriptor.
-const NONE: i32 = -1;
+// No byte can be read of it.
+#[derive(Drop)]
+struct Unreadable;
 
-fn main() {
-    program::run(NONE);
-    program::run(STDIN_FILENO);
+impl Read for Unreadable {
+    fn read(&mut self, _buf: &mut [u8]) -> io::Result<usize> {
+        Err(io::Error::other("no byte can be read"))
+    }
+}
+
+fn main(rt: HostRuntime) {
+    program::run(&rt, &mut Unreadable);
+    program::run(&rt, &mut rt.stdin());
 }

@@ -25,7 +25,8 @@ use Rattle.period.specs.Reading.{answer_of}
 use Rattle.demand3.specs.Made.{Asked, Made, call_of}
 use Rattle.demand3.specs.Demand3.{Holds, register_after, Fits64}
 use Rattle.demand3.proofs.EveryList.{holds_from, last_agrees, from_answers_lem, from_answers_more}
-use Rattle.demand3.proofs.Demand3.{made_of, demand_3}
+use Rattle.demand3.proofs.Demand3.{made_of}
+use Rattle.demand3.proofs.Demand3Proved.{demand_3}
 use Rattle.answers.proofs.RefusalRows.{is_clear}
 use Rattle.as_printed.specs.AsPrinted.{register_fed, AcceptedFits}
 use Rattle.as_printed.proofs.EveryReport.{as_printed}

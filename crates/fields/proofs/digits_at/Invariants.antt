@@ -1,7 +1,6 @@
 -- `digits_at` meets its contract. The invariant: the field's number is that of what is left at index q + k, behind the k digits before it.
-use Rattle.std.proofs.Common.{◌≡◌, ℕ, ◌+◌, ◌-◌, ◌^◌, ◌<◌, ◌≤◌, List, get_or, sym, ◌∙◌, subst, inl, inr, ⊎_elim, add-zero, arith, rules}
+use Rattle.std.proofs.Common.{◌+◌, ◌-◌, ◌≤◌}
 use Rattle.fields.specs.Fields.{Run}
-use Rattle.fields.proofs.DigitsRead.{digit_is, cap, run_start, run_on}
 use Rattle.fields.proofs.digits_at.Given as goal
 
 abbrev pub invariant-loop-k : goal.invariant-loop-k

@@ -1,7 +1,6 @@
 -- `find` meets its contract. The invariant: the first b of s is as far behind index i as the first b of what is left there.
-use Rattle.std.proofs.Common.{◌≡◌, ◌+◌, ◌-◌, ◌≤◌, eqb, length, drop, sym, rules, eq-eqb, ne_eqb}
+use Rattle.std.proofs.Common.{◌≡◌, ◌+◌, ◌-◌, ◌≤◌, eqb, length, drop}
 use Rattle.numbers.specs.Lists.{first_where}
-use Rattle.numbers.proofs.Lists.{first_more, first_stop, first_end}
 use Rattle.fields.proofs.find.Given as goal
 
 abbrev pub invariant-loop-i : goal.invariant-loop-i

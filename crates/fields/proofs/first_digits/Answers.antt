@@ -1,5 +1,5 @@
 -- `first_digits` meets its contract: the lesser of 13 and what is left is the one that it passes on.
-use Rattle.std.proofs.Common.{◌≡◌, ◌-◌, min, length, arith, rules}
+use Rattle.std.proofs.Common.{◌≡◌, ◌-◌, min, length, arith}
 use Rattle.fields.proofs.first_digits.Goals as goal
 
 pub returns-then-left-lt13 : goal.returns-then-left-lt13

@@ -1,6 +1,6 @@
 -- `is_ascii` meets its contract: no byte before index i is above 127.
-use Rattle.std.proofs.Common.{◌-◌, ◌<◌, ltb, length, get_or, sym, arith, rules, le-ltb, lt-ltb}
-use Rattle.numbers.proofs.Lists.{NoneBefore, none_before, none_more, any_found, any_none}
+use Rattle.std.proofs.Common.{◌-◌, ltb, length}
+use Rattle.numbers.proofs.Lists.{NoneBefore}
 use Rattle.fields.proofs.is_ascii.Given as goal
 
 abbrev pub invariant-loop-i : goal.invariant-loop-i

@@ -1,5 +1,5 @@
 -- `kind_of` meets its contract: a field of one byte is that byte alone, and its kind is computed.
-use Rattle.std.proofs.Common.{refl, rules}
+use Rattle.std.proofs.Common.{refl, arith}
 use Rattle.methodology.specs.Text.{bytes, same, kind_of}
 use Rattle.fields.proofs.KindAt.{kind_longer, kind_letter, kind_other_letter}
 use Rattle.fields.proofs.kind_of.Goals as goal
@@ -9,21 +9,19 @@ returns-then-field-ne1 c = rw (kind_longer _ c.if-field-ne1.true)
 
 pub returns-in-72 : goal.returns-in-72
 unfolding kind_of bytes same
-returns-in-72 c = rw (kind_letter _ _ c.if-field-ne1.false c.in-65«OR in-72 in-82 in-85 in_default».keys1) refl
+returns-in-72 c = rw (kind_letter _ _ c.if-field-ne1.false c.in-72.is) refl
 
 pub returns-in-82 : goal.returns-in-82
 unfolding kind_of bytes same
-returns-in-82 c = rw (kind_letter _ _ c.if-field-ne1.false c.in-65«OR in-72 in-82 in-85 in_default».keys2) refl
+returns-in-82 c = rw (kind_letter _ _ c.if-field-ne1.false c.in-82.is) refl
 
 pub returns-in-65 : goal.returns-in-65
 unfolding kind_of bytes same
-returns-in-65 c = rw (kind_letter _ _ c.if-field-ne1.false c.in-65«OR in-72 in-82 in-85 in_default».keys3) refl
+returns-in-65 c = rw (kind_letter _ _ c.if-field-ne1.false c.in-65.is) refl
 
 pub returns-in-85 : goal.returns-in-85
 unfolding kind_of bytes same
-returns-in-85 c = rw (kind_letter _ _ c.if-field-ne1.false c.in-65«OR in-72 in-82 in-85 in_default».keys4) refl
+returns-in-85 c = rw (kind_letter _ _ c.if-field-ne1.false c.in-85.is) refl
 
 pub returns-in_default : goal.returns-in_default
-returns-in_default c =
-    let r = c.in-65«OR in-72 in-82 in-85 in_default».rest in
-    rw (kind_other_letter _ c.if-field-ne1.false r.0.0.0.1 r.0.0.1 r.0.1 r.1)
+returns-in_default c = rw (kind_other_letter _ c.if-field-ne1.false (λ e. omega arith) (λ e. omega arith) (λ e. omega arith) (λ e. omega arith))

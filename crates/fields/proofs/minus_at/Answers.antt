@@ -1,5 +1,5 @@
 -- `minus_at` meets its contract: the byte at index p is the first of what is left there.
-use Rattle.std.proofs.Common.{arith, rules}
+use Rattle.std.proofs.Common.{arith}
 use Rattle.fields.proofs.Signs.{minus_yes, minus_no}
 use Rattle.fields.proofs.minus_at.Goals as goal
 

@@ -1,5 +1,5 @@
--- `natural_at` meets its contract: each return is a law of `Digits`, by the tests that led there.
-use Rattle.std.proofs.Common.{⊎_elim, arith, rules}
+-- `natural_at` meets its contract: each return is a law of `DigitsRead`, by the tests that led there.
+use Rattle.std.proofs.Common.{arith}
 use Rattle.fields.proofs.DigitsRead.{other_bad, open_bad, empty_bad, zeros_bad, run_good}
 use Rattle.fields.proofs.natural_at.Goals as goal
 
@@ -11,15 +11,13 @@ bounds-text-i c = omega (arith, c.first_digits-digits.ensures.run.within)
 
 pub returns-then-text-i : goal.returns-then-text-i
 returns-then-text-i c =
-    let f = c.before.before.before in
-    let r = f.first_digits-digits.ensures in
-    other_bad _ _ _ _ _ r.0 (omega (arith, r.0.within)) r.1 c.if-text-i.true f.requires.end_value
+    let r = c.first_digits-digits.ensures in
+    other_bad _ _ _ _ _ r.run (omega (arith, r.run.within)) r.over c.if-text-i.true c.requires.end_value
 
 pub returns-then-i-q : goal.returns-then-i-q
 returns-then-i-q c =
-    let f = c.before.before.before.before in
-    let r = f.first_digits-digits.ensures in
-    empty_bad _ _ _ _ _ r.0 (omega (arith, r.0.within)) c.if-text-i.false f.requires.end_value c.if-i-q.true
+    let r = c.first_digits-digits.ensures in
+    empty_bad _ _ _ _ _ r.run (omega (arith, r.run.within)) c.if-text-i.false c.requires.end_value c.if-i-q.true
 
 pub bounds-text-q : goal.bounds-text-q
 bounds-text-q c =
@@ -28,15 +26,11 @@ bounds-text-q c =
 
 pub returns-then-i-q-2 : goal.returns-then-i-q-2
 returns-then-i-q-2 c =
-    let e = c.before.before.before in
-    let f = e.before.before.before.before in
-    let r = f.first_digits-digits.ensures in
-    zeros_bad _ _ _ _ _ r.0 (omega (arith, r.0.within)) e.if-text-i.false f.requires.end_value e.if-i-q.false c.if-text-q-eq48.true c.if-i-q-2.true
+    let r = c.first_digits-digits.ensures in
+    zeros_bad _ _ _ _ _ r.run (omega (arith, r.run.within)) c.if-text-i.false c.requires.end_value c.if-i-q.false (omega arith) c.if-i-q-2.true
 
 pub returns : goal.returns
 returns c =
-    let e = c.before.before in
-    let f = e.before.before.before.before in
-    let r = f.first_digits-digits.ensures in
-    run_good _ _ _ _ _ r.0 (omega (arith, r.0.within)) e.if-text-i.false f.requires.end_value e.if-i-q.false
-    (λ z. ⊎_elim (λ w. w.1.left) (λ w. absurd (w.left z)) c.if-text-q-eq48.branch)
+    let r = c.first_digits-digits.ensures in
+    run_good _ _ _ _ _ r.run (omega (arith, r.run.within)) c.if-text-i.false c.requires.end_value c.if-i-q.false
+    (λ z. grind arith)

@@ -1,6 +1,5 @@
 -- `same` meets its contract. The invariant: a and b are the same where what is left of them from index i on is.
-use Rattle.std.proofs.Common.{◌≡◌, ◌-◌, ◌≤◌, length, drop, sym, ◌∙◌, arith, rules}
-use Rattle.methodology.specs.Text.{same}
+use Rattle.std.proofs.Common.{sym, ◌∙◌, arith}
 use Rattle.fields.proofs.SameBytes.{other_length, equal_at, other_at, equal_end}
 use Rattle.fields.proofs.same.Goals as goal
 
@@ -9,15 +8,12 @@ returns-then-a-b c = sym (other_length _ _ c.if-a-b.true)
 
 pub returns-then-a-i : goal.returns-then-a-i
 returns-then-a-i c =
-    let l = c.before.before.before.before in
-    sym (l.loop-i.invariant.1 ∙ other_at _ _ l.loop-i.i (omega arith) (omega arith) c.if-a-i.true)
+    sym (c.loop-i.invariant.1 ∙ other_at _ _ c.loop-i.i (omega arith) (omega arith) c.if-a-i.true)
 
 pub loop-i-preserved : goal.loop-i-preserved
 loop-i-preserved c =
-    let l = c.before.before.before.before in
-    (omega arith, l.loop-i.invariant.1 ∙ equal_at _ _ l.loop-i.i (omega arith) (omega arith) c.if-a-i.false)
+    (omega arith, c.loop-i.invariant.1 ∙ equal_at _ _ c.loop-i.i (omega arith) (omega arith) c.if-a-i.false)
 
 pub returns : goal.returns
 returns c =
-    let l = c.before in
-    sym (l.loop-i.invariant.1 ∙ equal_end _ _ l.loop-i.i (omega arith) (omega arith))
+    sym (c.loop-i.invariant.1 ∙ equal_end _ _ c.loop-i.i (omega arith) (omega arith))

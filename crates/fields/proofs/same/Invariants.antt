@@ -1,7 +1,6 @@
 -- `same` meets its contract. The invariant: a and b are the same where what is left of them from index i on is.
-use Rattle.std.proofs.Common.{◌≡◌, ◌-◌, ◌≤◌, length, drop, sym, ◌∙◌, arith, rules}
+use Rattle.std.proofs.Common.{◌≡◌, ◌-◌, ◌≤◌, length, drop}
 use Rattle.methodology.specs.Text.{same}
-use Rattle.fields.proofs.SameBytes.{other_length, equal_at, other_at, equal_end}
 use Rattle.fields.proofs.same.Given as goal
 
 abbrev pub invariant-loop-i : goal.invariant-loop-i

@@ -1,5 +1,4 @@
 -- `with_sign` meets its contract: a number of 13 digits is an i64, and so is its negative.
-use Rattle.std.proofs.Common.{rules}
 use Rattle.fields.proofs.Signs.{no_minus, with_minus, minus_fits}
 use Rattle.fields.proofs.with_sign.Goals as goal
 

@@ -2,7 +2,6 @@
 use mathlib.Core.Path.{refl}
 use native.Mathlib.Omega.{arith}
 use native.Mathlib.Nat.{mod-lt}
-use borrow.Author.Rules.{rules}
 use Rattle.numbers.proofs.Rounding.{round_down, round_up, round_le_ceil, ceil_le_self}
 use Rattle.quotient.proofs.div_round.Goals as goal
 
@@ -17,5 +16,5 @@ returns-else-rest-q c = round_up _ _ c.requires _ _ refl refl (omega arith)
 
 pub overflow_add-result : goal.overflow_add-result
 overflow_add-result c =
-    let s = c.before in
-    omega (arith, returns-else-rest-q c, round_le_ceil s.args.p _ s.requires, ceil_le_self s.args.p _ s.requires)
+    let p = c.args.p in
+    omega (arith, returns-else-rest-q c, round_le_ceil p _ c.requires, ceil_le_self p _ c.requires)

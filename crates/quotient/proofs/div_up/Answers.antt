@@ -1,7 +1,6 @@
 -- `div_up` meets its contract: one more than the quotient, where a remainder is left. That is at most p, and so fits.
 use mathlib.Core.Path.{refl}
 use native.Mathlib.Omega.{arith}
-use borrow.Author.Rules.{rules}
 use Rattle.numbers.proofs.Rounding.{ceil_exact, ceil_more, ceil_le_self}
 use Rattle.quotient.proofs.div_up.Goals as goal
 
@@ -12,6 +11,4 @@ pub returns-else-p-q-eq0 : goal.returns-else-p-q-eq0
 returns-else-p-q-eq0 c = ceil_more _ _ c.requires _ _ refl refl c.if-p-q-eq0.false
 
 pub overflow_add-result : goal.overflow_add-result
-overflow_add-result c =
-    let s = c.before in
-    omega (arith, returns-else-p-q-eq0 c, ceil_le_self s.args.p _ s.requires)
+overflow_add-result c = omega (arith, returns-else-p-q-eq0 c, ceil_le_self c.args.p _ c.requires)

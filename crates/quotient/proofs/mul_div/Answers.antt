@@ -3,7 +3,6 @@ use mathlib.Core.Path.{◌≡◌, sym}
 use Prim.Native.Nat.{ℕ, ◌/◌}
 use native.Mathlib.Omega.{arith}
 use native.Mathlib.Nat.{mul-zero, zero-div, zero-mod}
-use borrow.Author.Rules.{rules}
 use Rattle.numbers.proofs.Division.{prefix_le}
 use Rattle.quotient.specs.Ranges.{Division, radix}
 use Rattle.quotient.proofs.mul_div.Goals as goal

@@ -3,7 +3,6 @@ use mathlib.Core.Path.{◌≡◌, ap, ap₂, ◌∙◌}
 use Prim.Native.Nat.{ℕ, ◌*◌, ◌/◌, ◌≤◌}
 use native.Mathlib.Omega.{arith}
 use native.Mathlib.Nat.{div-le_of_le-mul, mul-le-mul_left}
-use borrow.Author.Rules.{rules}
 use Rattle.numbers.specs.Rounding.{ceil_div}
 use Rattle.numbers.proofs.Rounding.{ceil_ceil}
 use Rattle.methodology.specs.Day.{scale}
@@ -18,10 +17,10 @@ mul_div_up-requires c =
 
 pub returns : goal.returns
 returns c =
-    let s = c.before.before in
-    let m = s.args.m in
-    let d = s.args.d in
-    let product : m * (11 * s.args.s) ≡ 11 * m * s.args.s = omega arith in
+    let m = c.args.m in
+    let s = c.args.s in
+    let d = c.args.d in
+    let product : m * (11 * s) ≡ 11 * m * s = omega arith in
     let divisor : scale * (10 * d) ≡ 10 * d * scale = omega arith in
     c.div_up.ensures
     ∙ ap (λ (n : ℕ). ceil_div n (10 * d)) c.mul_div_up.ensures

@@ -1,6 +1,5 @@
 -- `share` meets its contract: it is a quotient of a product, and at most the scale.
 use native.Mathlib.Omega.{arith}
-use borrow.Author.Rules.{rules}
 use Rattle.numbers.proofs.Division.{part_le}
 use Rattle.methodology.specs.Day.{scale}
 use Rattle.quotient.proofs.share.Goals as goal

@@ -1,10 +1,6 @@
 -- `put_bytes` meets its contract: before turn i the first i bytes are put.
-use Prim.Native.Nat.{◌-◌, ◌≤◌}
 use native.Mathlib.Omega.{arith}
-use lib.ListN.{length, take}
 use lib.Seq.{take_all}
-use borrow.Author.Rules.{rules}
-use Rattle.report.specs.Put.{Put}
 use Rattle.report.proofs.Laws.{put_none, put_out, put_length, put_byte_more}
 use Rattle.report.proofs.put_bytes.Goals as goal
 
@@ -16,15 +12,13 @@ loop-i-init c = (omega arith, put_none _ _ (omega arith))
 
 pub loop-i-preserved : goal.loop-i-preserved
 loop-i-preserved c =
-    let l = c.before.before.before.before.before.before in
-    let bytes = l.args.bytes.now in
-    (omega arith, put_byte_more bytes l.loop-i.i (omega arith) l.loop-i.invariant.1 c.put-p.ensures)
+    let bytes = c.args.bytes.now in
+    (omega arith, put_byte_more bytes c.loop-i.i (omega arith) c.loop-i.invariant.1 c.put-p.ensures)
 
 pub shape_of-out : goal.shape_of-out
 shape_of-out c = put_length c.loop-i.invariant.1
 
 pub returns : goal.returns
 returns c =
-    let l = c.before in
-    let bytes = l.args.bytes.now in
-    rw (take_all l.loop-i.i bytes c.loop-i-test.false) at l.loop-i.invariant.1
+    let bytes = c.args.bytes.now in
+    rw (take_all c.loop-i.i bytes c.loop-i-test.false) at c.loop-i.invariant.1

@@ -1,11 +1,7 @@
 -- `put_bytes` meets its contract: before turn i the first i bytes are put.
 use Prim.Native.Nat.{◌-◌, ◌≤◌}
-use native.Mathlib.Omega.{arith}
 use lib.ListN.{length, take}
-use lib.Seq.{take_all}
-use borrow.Author.Rules.{rules}
 use Rattle.report.specs.Put.{Put}
-use Rattle.report.proofs.Laws.{put_none, put_out, put_length, put_byte_more}
 use Rattle.report.proofs.put_bytes.Given as goal
 
 abbrev pub invariant-loop-i : goal.invariant-loop-i

@@ -1,12 +1,7 @@
 -- `put_fields` meets its contract: before turn i the first i numbers are put.
-use mathlib.Core.List.{◌∷◌, flat_map}
-use Prim.Native.Nat.{◌-◌, ◌≤◌}
+use mathlib.Core.List.{flat_map}
 use native.Mathlib.Omega.{arith}
-use lib.ListN.{length, take}
 use lib.Seq.{take_all}
-use borrow.Author.Rules.{rules}
-use Rattle.methodology.specs.Text.{tab, decimal}
-use Rattle.report.specs.Put.{Put}
 use Rattle.report.proofs.Laws.{put_none, put_out, put_length, put_field_more}
 use Rattle.report.proofs.put_fields.Goals as goal
 
@@ -19,15 +14,13 @@ loop-i-init c = (omega arith, put_none _ _ (omega arith))
 
 pub loop-i-preserved : goal.loop-i-preserved
 loop-i-preserved c =
-    let l = c.before.before.before.before.before.before in
-    let numbers = l.args.numbers.now in
-    (omega arith, put_field_more _ numbers l.loop-i.i (omega arith) l.loop-i.invariant.1 c.put_field-p.ensures)
+    let numbers = c.args.numbers.now in
+    (omega arith, put_field_more _ numbers c.loop-i.i (omega arith) c.loop-i.invariant.1 c.put_field-p.ensures)
 
 pub shape_of-out : goal.shape_of-out
 shape_of-out c = put_length c.loop-i.invariant.1
 
 pub returns : goal.returns
 returns c =
-    let l = c.before in
-    let numbers = l.args.numbers.now in
-    rw (take_all l.loop-i.i numbers c.loop-i-test.false) at l.loop-i.invariant.1
+    let numbers = c.args.numbers.now in
+    rw (take_all c.loop-i.i numbers c.loop-i-test.false) at c.loop-i.invariant.1

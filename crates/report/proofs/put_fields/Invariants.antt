@@ -1,13 +1,9 @@
 -- `put_fields` meets its contract: before turn i the first i numbers are put.
 use mathlib.Core.List.{◌∷◌, flat_map}
 use Prim.Native.Nat.{◌-◌, ◌≤◌}
-use native.Mathlib.Omega.{arith}
 use lib.ListN.{length, take}
-use lib.Seq.{take_all}
-use borrow.Author.Rules.{rules}
 use Rattle.methodology.specs.Text.{tab, decimal}
 use Rattle.report.specs.Put.{Put}
-use Rattle.report.proofs.Laws.{put_none, put_out, put_length, put_field_more}
 use Rattle.report.proofs.put_fields.Given as goal
 
 abbrev pub invariant-loop-i : goal.invariant-loop-i

@@ -1,5 +1,4 @@
--- `put_refused` meets its contract: its array and its word are those of `refusedLine`.
-use borrow.Author.Rules.{rules}
+-- `put_refused` meets its contract: its array and its word are those of `refused_line`.
 use Rattle.methodology.specs.Text.{bytes}
 use Rattle.report.proofs.put_refused.Goals as goal
 

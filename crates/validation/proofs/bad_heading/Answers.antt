@@ -1,6 +1,5 @@
 -- `bad_heading` meets its contract: a heading is bad by itself or after the one before it.
 use mathlib.Core.Path.{sym, ◌∙◌}
-use borrow.Author.Rules.{rules}
 use Rattle.validation.proofs.Headings.{bad_is}
 use Rattle.validation.proofs.bad_heading.Goals as goal
 

@@ -1,13 +1,9 @@
 -- `first_bad_amount` meets its contract. The invariant: no account before i has a bad amount, as the slices hold it.
-use mathlib.Core.Path.{◌≡◌, sym, ◌∙◌}
+use mathlib.Core.Path.{◌≡◌}
 use mathlib.Core.Bool.{false}
-use Prim.Native.Nat.{ℕ, ◌+◌, ◌-◌, ◌*◌, ◌≤◌, ◌<◌}
-use native.Mathlib.Nat.{mul-le-mul_right}
-use native.Mathlib.Omega.{arith}
-use borrow.Author.Count.{below_none, below_more}
-use borrow.Author.Rules.{rules}
+use Prim.Native.Nat.{ℕ, ◌-◌, ◌≤◌, ◌<◌}
 use lib.ListN.{length}
-use Rattle.validation.proofs.Amounts.{bad_at, first_bad}
+use Rattle.validation.proofs.Amounts.{bad_at}
 use Rattle.validation.proofs.first_bad_amount.Given as goal
 
 abbrev pub invariant-loop-i : goal.invariant-loop-i

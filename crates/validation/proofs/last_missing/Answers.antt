@@ -1,12 +1,9 @@
 -- `last_missing` meets its contract. The invariant: no member before i is n.
 use mathlib.Core.Path.{sym, ap, ◌∙◌}
 use mathlib.Core.Bool.{not}
-use Prim.Native.Nat.{◌-◌}
-use borrow.Author.Rules.{rules}
 use borrow.Author.Tests.{eq-eqb, ne_eqb}
 use lib.Dec.{eqb}
-use lib.ListN.{length}
-use Rattle.numbers.proofs.Lists.{NoneBefore, none_before, none_more, any_found, any_none}
+use Rattle.numbers.proofs.Lists.{none_before, none_more, any_found, any_none}
 use Rattle.validation.proofs.Headings.{missing_is}
 use Rattle.validation.proofs.last_missing.Goals as goal
 

@@ -1,5 +1,4 @@
 -- `bad_day_number` meets its contract, by its tests.
-use borrow.Author.Rules.{rules}
 use mathlib.Core.Path.{sym, ◌∙◌}
 use Rattle.methodology.specs.Refusals.{bad_day_number}
 use Rattle.validation.proofs.limits.bad_day_number.Goals as goal

@@ -1,0 +1,109 @@
+-- The proof of the claim of Demand3.antt: each compiled function upholds what it ensures, and compiled calls are calls that were made.
+use mathlib.Core.Path.{◌≡◌, refl, subst}
+use mathlib.Core.List.{List, [], ◌∷◌, ◌++◌, map, map-append}
+use seplogic.Ra.Ura.{Ura}
+use base.Logic.{SProp}
+use prog.Memory.{Memory}
+use prog.Routine.{Routine}
+use types.Logic.{Logic}
+use contract.Monad.{Fun, fact}
+use contract.Notation.{connectives}
+use Rattle.period.specs.declared.Period.{Period}
+use Rattle.period.specs.Reading.{brought}
+use Rattle.period.specs.Calls.{fresh_period}
+use Rattle.period.specs.contracts.Period.fresh as fresh-fn
+use Rattle.period.specs.contracts.Period.opening as opening-fn
+use Rattle.period.specs.contracts.Period.day as day-fn
+use Rattle.period.specs.contracts.Period.day_of as day-of-fn
+use Rattle.period.specs.contracts.Period.closing as closing-fn
+use Rattle.period.proofs.Period.fresh.Symbol as fresh-code
+use Rattle.period.proofs.Period.opening.Symbol as Opening-code
+use Rattle.period.proofs.Period.day.Symbol as day-code
+use Rattle.period.proofs.Period.day_of.Symbol as day-of-code
+use Rattle.period.proofs.Period.closing.Symbol as closing-code
+use Rattle.period.proofs.Period.fresh.Met as fresh-proved
+use Rattle.period.proofs.Period.opening.Met as opening-proved
+use Rattle.period.proofs.Period.day.Met as day-proved
+use Rattle.period.proofs.Period.day_of.Met as day-of-proved
+use Rattle.period.proofs.Period.closing.Met as closing-proved
+use Rattle.period.proofs.Simulation.{starts}
+use Rattle.demand3.specs.Made.{Meets, MadeOn}
+use Rattle.demand3.proofs.EveryList.{holds, last_closing}
+use Rattle.demand3.proofs.Fitting.{narrow_fresh, can_be_made}
+use Rattle.demand3.proofs.Facts.{fact_holds, period_set, opening_prop, meets_prop, no_buffer}
+use Rattle.demand3.proofs.Returns.{returns}
+use contract.Running.{strict}
+use Rattle.demand3.proofs.Demand3.{Compiled, fresh, Method, opening, day, day_of, closing, compiled, CallOf, Called, given, made_of, EnsuredBy, AsEnsured, Linked, FromFresh, Upholds, Promised, Demand3}
+
+fresh_does : Upholds fresh (λ c. c.result ≡ fresh_period)
+fresh_does =
+    record {
+      met = λ {𝓤 = 𝓤} 𝓛 𝓜 𝓡 w. fresh-proved.met 𝓤 𝓛 𝓜 𝓡 w;
+      returns = λ {𝓤 = 𝓤} 𝓛 𝓜 𝓡 w. returns 𝓛 𝓜 𝓡 fresh-fn.ended (fresh-fn.clauses 𝓛) fresh-code.name (fresh-proved.met 𝓤 𝓛 𝓜 (strict 𝓤 𝓛.H 𝓜 𝓡) w);
+      clauses = λ 𝓛 mem run κs a. refl;
+    }
+
+-- Each clause holds by computation but for the opening's, to which `Meets` adds that it leaves no buffer: `no_buffer` says that this adds nothing.
+upholds : (f : Method) → Upholds (compiled f) (Promised f)
+upholds opening =
+    record {
+      met = λ {𝓤 = 𝓤} 𝓛 𝓜 𝓡 w. opening-proved.met 𝓤 𝓛 𝓜 𝓡 w;
+      returns = λ {𝓤 = 𝓤} 𝓛 𝓜 𝓡 w. returns 𝓛 𝓜 𝓡 opening-fn.ended (opening-fn.clauses 𝓛) Opening-code.name (opening-proved.met 𝓤 𝓛 𝓜 (strict 𝓤 𝓛.H 𝓜 𝓡) w);
+      clauses =
+          λ {𝓤 = 𝓤} 𝓛 mem run κs (self, (n, (k, (groups, _)))) i.
+          let o = brought n k groups.now in
+          record { ghost = Unit {0}; requires = λ _. (connectives 𝓤).⊤ₛ; ensures = λ _ r e. fact 𝓤 (no_buffer (opening_prop self o r) i) };
+    }
+upholds day =
+    record {
+      met = λ {𝓤 = 𝓤} 𝓛 𝓜 𝓡 w. day-proved.met 𝓤 𝓛 𝓜 𝓡 w;
+      returns = λ {𝓤 = 𝓤} 𝓛 𝓜 𝓡 w. returns 𝓛 𝓜 𝓡 day-fn.ended (day-fn.clauses 𝓛) day-code.name (day-proved.met 𝓤 𝓛 𝓜 (strict 𝓤 𝓛.H 𝓜 𝓡) w);
+      clauses = λ 𝓛 mem run κs a. refl;
+    }
+upholds day_of =
+    record {
+      met = λ {𝓤 = 𝓤} 𝓛 𝓜 𝓡 w. day-of-proved.met 𝓤 𝓛 𝓜 𝓡 w;
+      returns = λ {𝓤 = 𝓤} 𝓛 𝓜 𝓡 w. returns 𝓛 𝓜 𝓡 day-of-fn.ended (day-of-fn.clauses 𝓛) day-of-code.name (day-of-proved.met 𝓤 𝓛 𝓜 (strict 𝓤 𝓛.H 𝓜 𝓡) w);
+      clauses = λ 𝓛 mem run κs a. refl;
+    }
+upholds closing =
+    record {
+      met = λ {𝓤 = 𝓤} 𝓛 𝓜 𝓡 w. closing-proved.met 𝓤 𝓛 𝓜 𝓡 w;
+      returns = λ {𝓤 = 𝓤} 𝓛 𝓜 𝓡 w. returns 𝓛 𝓜 𝓡 closing-fn.ended (closing-fn.clauses 𝓛) closing-code.name (closing-proved.met 𝓤 𝓛 𝓜 (strict 𝓤 𝓛.H 𝓜 𝓡) w);
+      clauses = λ 𝓛 mem run κs a. refl;
+    }
+
+-- compiled calls are calls that were made
+module _ {M : Type 1} {𝓤 : Ura M} (𝓛 : Logic 𝓤) (mem : Memory → SProp 𝓤) (run : Routine → Fun 𝓤) where
+  kept_says : {f : Compiled} {Says : CallOf f → Type 0} → Upholds f Says → (c : CallOf f) → IsProp (Says c) → AsEnsured 𝓛 mem run c → Says c
+  kept_says {f} {Says} u c prop k =
+      fact_holds 𝓤 (Says c) prop (subst (EnsuredBy 𝓤 c) (u.clauses 𝓛 mem run c.κs c.arguments) k).1
+
+  linked_made : (p : Period) (cs : List Called) → Linked 𝓛 mem run p cs → MadeOn p (map made_of cs)
+  linked_made p [] l = tt
+  linked_made p (c ∷ cs) (g, k, l) =
+      let m = made_of c in
+      let met = kept_says (upholds c.function) c.call (meets_prop (given c) m.asked m.reply m.after) k in
+      (subst (λ (q : Period). Meets q m.asked m.reply m.after) g met, linked_made m.reply.period cs l)
+
+  fresh_made : (cs : List Called) → FromFresh 𝓛 mem run cs → MadeOn fresh_period (map made_of cs)
+  fresh_made cs f =
+      let is-fresh = kept_says fresh_does f.first (period_set f.first.result fresh_period) f.kept in
+      subst (λ (p : Period). MadeOn p (map made_of cs)) is-fresh (linked_made f.first.result cs f.linked)
+
+pub demand_3 : Demand3
+demand_3 =
+    record {
+      every_list = holds starts;
+      last_closing = last_closing starts;
+      every_list_can_be_made = can_be_made narrow_fresh;
+      fresh_narrow = narrow_fresh;
+      fresh_upholds = fresh_does;
+      calls_uphold = upholds;
+      compiled_lists = λ 𝓛 mem run cs f. holds starts (map made_of cs) (fresh_made 𝓛 mem run cs f);
+      compiled_closing =
+          λ 𝓛 mem run cs c out is f e.
+          let split = map-append made_of cs (c ∷ []) in
+          let made = subst (MadeOn fresh_period) split (fresh_made 𝓛 mem run (cs ++ (c ∷ [])) f) in
+          rw split (last_closing starts (map made_of cs) (made_of c) out is made e);
+    }
