@@ -44,8 +44,9 @@ def until(tokens, at, ends):
 
 def items(tokens, path, of=()):
     """Of each item its kind, its path, whether it is public, and the tokens of its type. `of` is
-    the type of the impl block that the items stand in."""
-    at, public = 0, False
+    the head of the impl block that the items stand in; what it has of a trait is public. A derive
+    is a function by the trait's name, but for `Clone` and `Copy`, which give the same value."""
+    at, public, derived = 0, "for" in of, []
     while at < len(tokens):
         word, first, at = tokens[at], at + 1, past(tokens, at)
         if word == "pub":
@@ -65,6 +66,8 @@ def items(tokens, path, of=()):
             end = until(tokens, first, {"{", "(", ";"})
             at = past(tokens, end)
             yield word, path + [tokens[first]], public, tokens[end:at]
+            yield from (("fn", path + [tokens[first], trait], True, [tokens[first]])
+                        for trait in derived if trait[0].isupper() and trait not in ("Clone", "Copy"))
         elif word in ("type", "use") or word in ("const", "static") and tokens[first] != "fn":
             end = until(tokens, first, {";"} if word in ("type", "use") else {"=", ";"})
             at = past(tokens, until(tokens, end, {";"}))
@@ -75,9 +78,11 @@ def items(tokens, path, of=()):
             head, inside = tokens[first:end], tokens[end + 1:at - 1]
             name = [token for token in head if word == "mod" or token[0].isupper()][-1]
             yield from items(inside, path + [name], head if word == "impl" else ())
-        else:
-            continue  # an attribute, or a word such as `extern`, before an item
-        public = False
+        else:  # an attribute, or a word such as `extern`, before an item
+            if word == "[" and tokens[first] == "derive":
+                derived += tokens[first:at]
+            continue
+        public, derived = "for" in of, []
 
 
 def all_items(root):
@@ -107,13 +112,13 @@ def claimed(root):
     `FromFresh` and `Called` have calls of what `CallOf` names, whose definition has the modules."""
     with open(os.path.join(root, CLAIM), encoding="utf8") as file:
         text = file.read()
-    uses = re.findall(r"^use Rattle·(\S+) as (\S+)$", text, re.M)
-    modules = {name: module for module, name in uses}
+    uses = re.findall(r"^use Rattle\.(\w+)\.specs\.contracts\.(\S+) as (\S+)$", text, re.M)
+    modules = {name: f"{crate}.{module}" for crate, module, name in uses}
     records = [re.search(rf"pub record {head}\b.*?\n\n", text, re.S)[0]
                for head in ("FromFresh", "Called")]
     called = [name for part in records for name in re.findall(r"CallOf \(?(\w+)", part)]
     defined = [re.search(rf"pub {name} : .*?\n\n", text, re.S)[0] for name in called]
-    return {modules[name].replace(".proofs.", ".").replace(".", "::")
+    return {modules[name].replace(".", "::")
             for part in defined for name in re.findall(r"ended = (\S+)\.ended;", part)}
 
 

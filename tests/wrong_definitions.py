@@ -26,7 +26,7 @@ from collections import Counter, namedtuple
 TOP = os.path.join(os.path.dirname(os.path.abspath(__file__)), "..", "crates")
 # First no table, to see what is a definition at all; then the tables, those that take least time
 # first, since what one lets through is held to the next; each with how many are checked at once.
-STAGES = ((None, 40), ("WorkedCalls", 12), ("Figures", 12), ("WorkedTexts", 12), ("WorkedLimits", 4))
+STAGES = ((None, 300), ("WorkedCalls", 60), ("Figures", 60), ("WorkedTexts", 30), ("WorkedLimits", 12))
 # Words for proofs and code, of which no statement of the outside speaks.
 NOT_OF_THE_DOCUMENT = ("Lines", "Lib")
 
@@ -433,10 +433,12 @@ def checked(modules, wrongs):
     """Checks several wrong definitions at once, each with copies of all that rests on it. What
     becomes of each: held, by which table; let through; or no definition at all."""
     with tempfile.TemporaryDirectory() as top:
-        place = os.path.join(top, "methodology")
+        place = os.path.join(top, "crates", "methodology")
         for folder in ("src", "specs", "proofs"):
             os.makedirs(os.path.join(place, folder))
         shutil.copy(os.path.join(TOP, "methodology", "src", "lib.rt"), os.path.join(place, "src"))
+        with open(os.path.join(top, "crates.txt"), "w") as file:
+            file.write("methodology:\n")
         listed, marks = [], {}
         for number, wrong in enumerate(wrongs):
             name, mark = module_of(wrong), f"W{number}x"
@@ -448,8 +450,7 @@ def checked(modules, wrongs):
         for folder in ("specs", "proofs"):
             with open(os.path.join(place, folder, "Lib.antt"), "w") as file:
                 file.write("".join(f"pub mod {name}\n" for where, name in listed if where == folder))
-        done = subprocess.run(["rt", "check", place], cwd=top, stdout=subprocess.PIPE, stderr=subprocess.STDOUT,
-                              env=dict(os.environ, RT_CUT="400"))
+        done = subprocess.run(["rt", "check"], cwd=place, stdout=subprocess.PIPE, stderr=subprocess.STDOUT)
         said = done.stdout.decode(errors="replace")
     if done.returncode not in (0, 1):
         return None
