@@ -30,7 +30,7 @@ use Rattle.period.specs.contracts.Period.day as day-fn
 use Rattle.period.specs.contracts.Period.day_of as day-of-fn
 use Rattle.period.specs.contracts.Period.closing as closing-fn
 use Rattle.period.proofs.Period.fresh.Symbol as fresh-code
-use Rattle.period.proofs.Period.opening.Symbol as Opening-code
+use Rattle.period.proofs.Period.opening.Symbol as opening-code
 use Rattle.period.proofs.Period.day.Symbol as day-code
 use Rattle.period.proofs.Period.day_of.Symbol as day-of-code
 use Rattle.period.proofs.Period.closing.Symbol as closing-code
@@ -62,7 +62,7 @@ pub data Method : Type 0 where
 
 abbrev pub compiled : Method → Compiled
 compiled opening =
-    record { ended = opening-fn.ended; clauses = opening-fn.clauses; code = Opening-code.code; name = Opening-code.name }
+    record { ended = opening-fn.ended; clauses = opening-fn.clauses; code = opening-code.code; name = opening-code.name }
 compiled day = record { ended = day-fn.ended; clauses = day-fn.clauses; code = day-code.code; name = day-code.name }
 compiled day_of =
     record { ended = day-of-fn.ended; clauses = day-of-fn.clauses; code = day-of-code.code; name = day-of-code.name }

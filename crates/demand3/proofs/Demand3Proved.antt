@@ -17,7 +17,7 @@ use Rattle.period.specs.contracts.Period.day as day-fn
 use Rattle.period.specs.contracts.Period.day_of as day-of-fn
 use Rattle.period.specs.contracts.Period.closing as closing-fn
 use Rattle.period.proofs.Period.fresh.Symbol as fresh-code
-use Rattle.period.proofs.Period.opening.Symbol as Opening-code
+use Rattle.period.proofs.Period.opening.Symbol as opening-code
 use Rattle.period.proofs.Period.day.Symbol as day-code
 use Rattle.period.proofs.Period.day_of.Symbol as day-of-code
 use Rattle.period.proofs.Period.closing.Symbol as closing-code
@@ -48,7 +48,7 @@ upholds : (f : Method) → Upholds (compiled f) (Promised f)
 upholds opening =
     record {
       met = λ {𝓤 = 𝓤} 𝓛 𝓜 𝓡 w. opening-proved.met 𝓤 𝓛 𝓜 𝓡 w;
-      returns = λ {𝓤 = 𝓤} 𝓛 𝓜 𝓡 w. returns 𝓛 𝓜 𝓡 opening-fn.ended (opening-fn.clauses 𝓛) Opening-code.name (opening-proved.met 𝓤 𝓛 𝓜 (strict 𝓤 𝓛.H 𝓜 𝓡) w);
+      returns = λ {𝓤 = 𝓤} 𝓛 𝓜 𝓡 w. returns 𝓛 𝓜 𝓡 opening-fn.ended (opening-fn.clauses 𝓛) opening-code.name (opening-proved.met 𝓤 𝓛 𝓜 (strict 𝓤 𝓛.H 𝓜 𝓡) w);
       clauses =
           λ {𝓤 = 𝓤} 𝓛 mem run κs (self, (n, (k, (groups, _)))) i.
           let o = brought n k groups.now in
