@@ -54,7 +54,7 @@ pub open_as_found : (p : Period) {s : Status} {r b : Bool} → s ≡ status_of p
 open_as_found p e o t = ap is_open (sym e) ∙ sym o ∙ t
 
 -- the rows before a day's figures, and row 7
-split_off : (p : Period) (d : DayInput) (room : ℕ)
+pub split_off : (p : Period) (d : DayInput) (room : ℕ)
     → day_row p d room ≡ rows_of early_row p d room else row 7 when eqb (total (held_by p) (accounts_brought p d)) 0 else Clear
 unfolding day_row day_refusal early_row
 split_off p d room = refl
