@@ -41,10 +41,10 @@ module _ (o : Opening) (Max : ℕ) (accts : List Account) where
       Σ-eq (members o.n) _ _
       (λ m i. let (low, high) = mem_range 1 o.n i in ap (λ (l : List ℕ). get_or l c 0) (record_is m low (omega arith)))
 
-  pub sums_of_five_lem : totals o.n (dailies o Max accts) ≡ sums_of_five o Max accts
+  pub sums_are_of_five : totals o.n (dailies o Max accts) ≡ sums_of_five o Max accts
   unfolding totals five
-  sums_of_five_lem = rw (column_is 0, column_is 1, column_is 2, column_is 3, column_is 4)
+  sums_are_of_five = rw (column_is 0, column_is 1, column_is 2, column_is 3, column_is 4)
 
   pub first_sum_is_t : get_or (totals o.n (dailies o Max accts)) 0 0 ≡ total o accts
   unfolding total
-  first_sum_is_t = ap (λ (l : List ℕ). get_or l 0 0) sums_of_five_lem
+  first_sum_is_t = ap (λ (l : List ℕ). get_or l 0 0) sums_are_of_five

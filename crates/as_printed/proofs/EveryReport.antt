@@ -26,7 +26,7 @@ use Rattle.demand3.specs.Demand3.{Fits64}
 use Rattle.demand3.proofs.RegisterFits.{Kept, kept_first, CallFits, call_fits, writes_few}
 use Rattle.answers.proofs.Columns.{totals_fit}
 use Rattle.as_printed.specs.AsPrinted.{Line, lines_of, InDecimal, DayRead, lines_of_day, AddsUp, Other, Counts, last_max, DaysAddUp, register_fed, members_in, ReadAsSummed, AsPrinted}
-use Rattle.as_printed.proofs.DaySums.{record_is, sums_of_five_lem, first_sum_is_t}
+use Rattle.as_printed.proofs.DaySums.{record_is, sums_are_of_five, first_sum_is_t}
 use Rattle.as_printed.proofs.ReadBack.{digits_alone, no_leading_zero, reads_back, reads_back_as_text}
 use Rattle.as_printed.proofs.PrintedLines.{Shows}
 use Rattle.as_printed.proofs.DayShown.{Told, as_read, day_shows, day_adds_up, day_told, fund_shows, fund_other, fund_counts, fund_told, refused_shows, refused_other, refused_counts, refused_told}
@@ -213,7 +213,7 @@ pub as_printed : AsPrinted
 as_printed =
     record {
       record_is = record_is;
-      sums_of_five_lem = sums_of_five_lem;
+      sums_are_of_five = sums_are_of_five;
       first_sum_is_t = first_sum_is_t;
       digits_alone = digits_alone;
       no_leading_zero = no_leading_zero;

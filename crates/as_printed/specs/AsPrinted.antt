@@ -144,7 +144,7 @@ pub record AsPrinted : Type 0 where
   -- a member's record is its five numbers, and the sums of the columns are those of the five
   pub record_is : (o : Opening) (Max : ℕ) (accts : List Account) (m : ℕ) → 1 ≤ m → m ≤ o.n
       → stretch 5 m (dailies o Max accts) ≡ five (loss o.k accts m) Max (total o accts)
-  pub sums_of_five_lem : (o : Opening) (Max : ℕ) (accts : List Account) → totals o.n (dailies o Max accts) ≡ sums_of_five o Max accts
+  pub sums_are_of_five : (o : Opening) (Max : ℕ) (accts : List Account) → totals o.n (dailies o Max accts) ≡ sums_of_five o Max accts
   -- "and the first equals T"
   pub first_sum_is_t : (o : Opening) (Max : ℕ) (accts : List Account) → get_or (totals o.n (dailies o Max accts)) 0 0 ≡ total o accts
   -- A number below 10^20 is printed in digits alone, with no leading zero, which have its value; where there are at most 13 they are that

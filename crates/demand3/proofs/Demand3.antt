@@ -1,6 +1,6 @@
 -- Demand 3, of the program. The record `Demand3` is the claim, whole: demand 3 of every list of calls; that calls with any arguments can be
 -- made; that the compiled functions meet their contracts, and that these are the contracts which the lists speak of; and demand 3 of every
--- list of compiled calls. `demand_3` proves it.
+-- list of compiled calls. `demand_3` in Demand3Proved.antt proves it.
 use mathlib.Core.Path.{◌≡◌}
 use mathlib.Core.List.{List, [], ◌∷◌, ◌++◌, map}
 use Prim.Native.Nat.{ℕ}
@@ -8,13 +8,15 @@ use seplogic.Ra.Ura.{Ura}
 use base.Logic.{SProp}
 use prog.Model.{Model}
 use prog.Memory.{Memory}
-use prog.Routine.{Routine, Callee}
+use prog.Machine.{Program}
+use prog.Routine.{Routine, Callee, machine}
+use prog.Linked.{Has, in_program}
 use prog.Wired.{Code, Wired}
 use types.Logic.{Logic}
 use contract.Monad.{Fun, fact}
 use contract.Notation.{connectives}
 use contract.Lifetimes.{Lfts}
-use contract.Running.{Running}
+use contract.Running.{Running, within}
 use denote.Triple.Entry.{Args, Res}
 use denote.Triple.Spec.{Meets as Meets-spec}
 use denote.Triple.Clauses.{Ended, ClausesAt, Clauses, AtExit, closing as closing-of}
@@ -134,7 +136,7 @@ module _ {M : Type 1} {𝓤 : Ura M} (𝓛 : Logic 𝓤) (mem : Memory → SProp
 -- What is claimed of a compiled function. `Says` is what its `ensures` says of a call.
 pub record Upholds (f : Compiled) (Says : CallOf f → Type 0) : Type 2 where
   -- It meets its contract: what its name means, in any environment that has its code, ends, on every call, without a panic, and does what
-  -- its clauses say.
+  -- its clauses say (or stops the process, where the model allows it a status to stop at).
   pub met :
       {M : Type 1} {𝓤 : Ura M} (𝓛 : Logic 𝓤) (𝓜 : Model 𝓤 𝓛.H) (𝓡 : Running 𝓤 𝓛.H 𝓜) → Wired 𝓡.env f.code
       → Meets-spec 𝓛 f.ended.signature (𝓡.run (𝓡.env f.name)) (closing-of 𝓛 f.ended (f.clauses 𝓛 𝓜.mem 𝓡.returns))
@@ -143,6 +145,10 @@ pub record Upholds (f : Compiled) (Says : CallOf f → Type 0) : Type 2 where
   pub returns :
       {M : Type 1} {𝓤 : Ura M} (𝓛 : Logic 𝓤) (𝓜 : Model 𝓤 𝓛.H) (𝓡 : Running 𝓤 𝓛.H 𝓜) → Wired 𝓡.env f.code
       → Returns 𝓛 𝓜 𝓡 f.ended (f.clauses 𝓛) f.name
+  -- And so of the machine on any program that has its code and that of all that it calls.
+  pub on_machine :
+      {M : Type 1} {𝓤 : Ura M} (𝓛 : Logic 𝓤) (𝓜 : Model 𝓤 𝓛.H) (𝓡 : Running 𝓤 𝓛.H 𝓜) (P : Program) → Has (in_program P) f.code
+      → Returns 𝓛 𝓜 (within 𝓤 𝓛.H 𝓜 𝓡 (machine P)) f.ended (f.clauses 𝓛) f.name
   -- Its clauses, whole: no ghost, nothing required, and `Says` ensured.
   pub clauses :
       {M : Type 1} {𝓤 : Ura M} (𝓛 : Logic 𝓤) (mem : Memory → SProp 𝓤) (run : Routine → Fun 𝓤)

@@ -103,6 +103,11 @@ abbrev pub found : (value next : ℕ) → Natural
 found value next = record { value = value; next = next }
 
 module _ (s : List ℕ) (q : ℕ) where
+  pub run_start : q ≤ length s → Run s q q 0
+  run_start h =
+      let z : q - q ≡ 0 = omega arith in
+      record { from = omega arith; within = h; few = omega arith; small = rw z (omega arith); value = refl; odds = refl; counts = refl }
+
   -- one digit more
   pub run_on : {i v : ℕ} → Run s q i v → i < length s → i < q + 13 → is_digit (get_or s i 0) ≡ true → Run s q (i + 1) (10 * v + (get_or s i 0 - 48))
   unfolding value_from any

@@ -3,8 +3,8 @@
 
 ghost use Rattle.std.specs.Prelude.{◌≡◌, ◌+◌, ◌-◌, ◌<◌, ◌≤◌, min, true, false, not, [], length, drop, pos, neg_ℤ, if◌then◌else◌, nat_eq, nat_lt, slice_index_or};
 ghost use Rattle.numbers.specs.Lists.{any, first_where};
-ghost use Rattle.methodology.specs.Text.{LF as Text-as-LF, split, fields, same as Text·same, is_digit, kind_of};
-ghost use Rattle.fields.specs.Fields.{stops, size, Run, Over, number_at, told, value_at, minus_of, OneIs, due as dueOf, row_at, span, RowIs};
+ghost use Rattle.methodology.specs.Text.{LF as text_LF, split, fields, same as text_same, is_digit, kind_of};
+ghost use Rattle.fields.specs.Fields.{stops, size, Run, Over, number_at, told, value_at, minus_of, OneIs, due as due_of, row_at, span, RowIs};
 
 use methodology::{KIND_A, KIND_H, KIND_R, KIND_U};
 
@@ -44,14 +44,14 @@ pub fn field(line: &[u8]) -> &[u8]
 
 // The part of a text up to the next LF.
 pub fn line(text: &[u8]) -> &[u8]
-    ensures { result.now ≡ slice_index_or (split Text-as-LF text.now) 0 [] }
+    ensures { result.now ≡ slice_index_or (split text_LF text.now) 0 [] }
 {
     up_to(text, LF)
 }
 
 // Whether a and b hold the same bytes.
 pub fn same(a: &[u8], b: &[u8]) -> bool
-    ensures { result ≡ Text·same a.now b.now }
+    ensures { result ≡ text_same a.now b.now }
 {
     if a.len() != b.len() {
         return false;
@@ -283,7 +283,7 @@ fn value_at(text: &[u8], p: usize, end: u8, lettered: bool, row: &mut [i64], j: 
 
 // The byte that ends a field after which `left` more are due.
 fn due(left: usize) -> u8
-    ensures value { result ≡ dueOf left }
+    ensures value { result ≡ due_of left }
     ensures result_value { stops result ≡ true }
 {
     if left == 0 {

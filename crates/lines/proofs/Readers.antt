@@ -4,14 +4,14 @@ use mathlib.Core.Path.{◌≡◌, refl, sym, ap, ◌∙◌, subst}
 use mathlib.Core.Bool.{Bool, true, false, not, ◌&&◌, cond}
 use mathlib.Core.List.{List, [], ◌∷◌, map, map-append}
 use mathlib.Core.Option.{Option, none, some}
-use Prim.Native.Nat.{ℕ, zero, suc, ◌+◌, ◌-◌, ◌<◌, ◌^◌}
+use Prim.Native.Nat.{ℕ, zero, suc, ◌+◌, ◌-◌, ◌≤◌, ◌<◌, ◌^◌}
 use native.Mathlib.Numerals.{add-one}
 use native.Mathlib.Omega.{arith}
 use lib.Dec.{T, eqb}
 use lib.IntN.{ℤ, pos, nat_abs}
 use lib.Signed.{◌≤ℤ◌, lt_z, non_neg, mag, lt_z_no}
 use lib.ListN.{length, get_or, take, drop, set, length-set}
-use lib.Seq.{take-suc, take-suc-set}
+use lib.Seq.{take_all, take-suc, take-suc-set}
 use mir.Syntax.{w64}
 use mir.Val.{Fits, to_z, of_z, hbits}
 use borrow.Author.Tests.{eq-eqb, le-ltb}
@@ -51,6 +51,9 @@ pub record Copied (signed : List ℤ) (row : List ℕ) (j : ℕ) : Type 0 where
   pub long : length row ≡ length signed
   pub same : take j row ≡ map (λ z. z ⁺) (take j signed)
 
+pub copied_none : (signed : List ℤ) (row : List ℕ) → length row ≡ length signed → Copied signed row 0
+copied_none signed row h = record { long = h; same = refl }
+
 module _ {signed : List ℤ} {row : List ℕ} {j : ℕ} (c : Copied signed row j) where
   abbrev z : ℤ
   z = get_or signed j (pos 0)
@@ -61,6 +64,9 @@ module _ {signed : List ℤ} {row : List ℕ} {j : ℕ} (c : Copied signed row j
         long = length-set row j (z ⁺) ∙ c.long;
         same = rw (add-one j, take-suc signed j (pos 0) h, take-suc-set row j (z ⁺) (omega (arith, c.long)), c.same, map-append (λ z. z ⁺) (take j signed) (z ∷ []));
       }
+
+  pub copied_all : length signed ≤ j → row ≡ map (λ z. z ⁺) signed
+  copied_all h = sym (take_all j row (omega (arith, c.long))) ∙ c.same ∙ rw (take_all j signed h)
 
 -- the reader's answers, from the signed row that was read
 module _ (text word : List ℕ) (p n : ℕ) (signed : List ℤ) (r : ℕ) (found : RowIs (line_row word n n (drop p text)) (p + index_of LF (drop p text) + 1) signed r) where

@@ -4,7 +4,7 @@
 mod arrays;
 
 ghost use Rattle.std.specs.Prelude.{◌≡◌, true, List, length, get_or, take, ℕ, ◌*◌, ◌≤◌, ◌<◌};
-ghost use Rattle.headings.specs.Columns.{columns as columnsOf};
+ghost use Rattle.headings.specs.Columns.{columns as columns_of};
 ghost use Rattle.validation.specs.Slices.{plain_day, Even};
 ghost use Rattle.methodology.specs.Account.{with_groups};
 ghost use Rattle.methodology.specs.Refusals.{is_open};
@@ -330,7 +330,7 @@ impl Period {
         extras: &[u64],
         out: &mut [u64],
     ) -> Reply
-        ensures { (hs : List Heading) → length hs ≡ count → columns ≡ columnsOf hs → DayMeets self (day_brought terms hs npvs.now margins.now extras.now) out.old result out.new }
+        ensures { (hs : List Heading) → length hs ≡ count → columns ≡ columns_of hs → DayMeets self (day_brought terms hs npvs.now margins.now extras.now) out.old result out.new }
     {
         let n = headings::counted(count);
         self.cut_day(terms, n, &columns, npvs, margins, extras, out)

@@ -1,14 +1,14 @@
 // Rows 1, 3 and 4 of the refusal table: the limits of what an opening brings, of a day's number, and of a day's lengths.
 ghost use Rattle.std.specs.Prelude.{◌≡◌, not, ◌||◌, ◌+◌, ◌*◌, ◌≤◌, eqb};
 ghost use Rattle.methodology.specs.Account.{with_groups};
-ghost use Rattle.methodology.specs.Refusals.{outside as Refusals·outside, n_outside, k_outside, bad_opening, bad_day_number, count_outside};
+ghost use Rattle.methodology.specs.Refusals.{outside as outside_limits, n_outside, k_outside, bad_opening, bad_day_number, count_outside};
 
 use methodology::Opening;
 use numbers::any_above;
 
 // Whether x is below the least or above the most.
 fn outside(least: u64, most: u64, x: u64) -> bool
-    ensures { result ≡ Refusals·outside least most x }
+    ensures { result ≡ outside_limits least most x }
 {
     if x < least {
         return true;
