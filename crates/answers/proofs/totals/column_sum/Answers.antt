@@ -23,27 +23,27 @@ loop-m-init c = (omega arith, zero-add _ ∙ left_first _ _ _ _)
 
 pub overflow_mul-sum : goal.overflow_mul-sum
 overflow_mul-sum c =
-    omega (arith, within c.args.width c.args.n c.args.c c.loop-m.m c.args.figures.now c.requires.c_lt_width.0 c.requires.c_lt_width.1 c.loop-m-test.true)
+    omega (arith, within c.args.width c.args.n c.args.c c.loop-m.m c.args.figures.now c.requires.c_lt_width.0 c.requires.c_lt_width.1 (omega (arith, c.loop-m-test.true)))
 
 pub overflow_add-sum : goal.overflow_add-sum
 overflow_add-sum c =
-    omega (arith, within c.args.width c.args.n c.args.c c.loop-m.m c.args.figures.now c.requires.c_lt_width.0 c.requires.c_lt_width.1 c.loop-m-test.true)
+    omega (arith, within c.args.width c.args.n c.args.c c.loop-m.m c.args.figures.now c.requires.c_lt_width.0 c.requires.c_lt_width.1 (omega (arith, c.loop-m-test.true)))
 
 pub offset_bounds-figures-width : goal.offset_bounds-figures-width
 offset_bounds-figures-width c =
-    omega (arith, within c.args.width c.args.n c.args.c c.loop-m.m c.args.figures.now c.requires.c_lt_width.0 c.requires.c_lt_width.1 c.loop-m-test.true)
+    omega (arith, within c.args.width c.args.n c.args.c c.loop-m.m c.args.figures.now c.requires.c_lt_width.0 c.requires.c_lt_width.1 (omega (arith, c.loop-m-test.true)))
 
 pub bounds-figures-width : goal.bounds-figures-width
 bounds-figures-width c =
-    within c.args.width c.args.n c.args.c c.loop-m.m c.args.figures.now c.requires.c_lt_width.0 c.requires.c_lt_width.1 c.loop-m-test.true
+    within c.args.width c.args.n c.args.c c.loop-m.m c.args.figures.now c.requires.c_lt_width.0 c.requires.c_lt_width.1 (omega (arith, c.loop-m-test.true))
 
 pub overflow_add-sum-in-loop-m : goal.overflow_add-sum-in-loop-m
 overflow_add-sum-in-loop-m c =
-    omega (arith, added c.args.width c.args.n c.args.c c.loop-m.m c.loop-m.sum c.args.figures.now c.requires.c_lt_width.0 c.loop-m-test.true c.loop-m.invariant.1, c.requires.c_bound)
+    omega (arith, added c.args.width c.args.n c.args.c c.loop-m.m c.loop-m.sum c.args.figures.now c.requires.c_lt_width.0 (omega (arith, c.loop-m-test.true)) c.loop-m.invariant.1, c.requires.c_bound)
 
 pub loop-m-preserved : goal.loop-m-preserved
 loop-m-preserved c =
-    (omega arith, added c.args.width c.args.n c.args.c c.loop-m.m c.loop-m.sum c.args.figures.now c.requires.c_lt_width.0 c.loop-m-test.true c.loop-m.invariant.1)
+    (omega arith, added c.args.width c.args.n c.args.c c.loop-m.m c.loop-m.sum c.args.figures.now c.requires.c_lt_width.0 (omega (arith, c.loop-m-test.true)) c.loop-m.invariant.1)
 
 pub returns : goal.returns
 returns c =
