@@ -3,7 +3,7 @@
 
 Runs every check beside the gate, one after another, and prints the last line of each, all of it where it fails, and how many passed.
 Exits with 1 where one failed. It builds nothing: target/bin/sizing has to be there. With --definitions the wrong definitions are
-tried too, which takes some 25 minutes.
+tried too, which takes some half hour.
 """
 import argparse
 import os

@@ -140,7 +140,7 @@ pub record Upholds (f : Compiled) (Says : CallOf f → Type 0) : Type 2 where
   pub met :
       {M : Type 1} {𝓤 : Ura M} (𝓛 : Logic 𝓤) (𝓜 : Model 𝓤 𝓛.H) (𝓡 : Running 𝓤 𝓛.H 𝓜) → Wired 𝓡.env f.code
       → Meets-spec 𝓛 f.ended.signature (𝓡.run (𝓡.env f.name)) (closing-of 𝓛 f.ended (f.clauses 𝓛 𝓜.mem 𝓡.returns))
-  -- So the machine, in every model of it: a call from a memory in which its arguments stand ends, with a result and exits of which its
+  -- So, where no status is allowed and no other thread runs: a call from a memory in which its arguments stand ends, with a result and exits of which its
   -- `ensures` holds.
   pub returns :
       {M : Type 1} {𝓤 : Ura M} (𝓛 : Logic 𝓤) (𝓜 : Model 𝓤 𝓛.H) (𝓡 : Running 𝓤 𝓛.H 𝓜) → Wired 𝓡.env f.code

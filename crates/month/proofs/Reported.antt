@@ -24,7 +24,8 @@ use Rattle.month.proofs.report.Statement as report-stated
 use Rattle.month.proofs.report.Met as report-proved
 
 pub record Reported : Type 2 where
-  -- in any environment that has its code it ends, on every text and every buffer, without a panic, and does what its clauses say
+  -- in any environment that has its code it ends, on every text and every buffer, without a panic, and does what its clauses say (or stops
+  -- the process, where the model allows it a status to stop at)
   pub report_met : {M : Type 1} → report-stated.statement M
   -- and so on the machine, on any program that has its code and that of all that it calls
   pub report_on_machine :
