@@ -14,7 +14,7 @@ import sys
 CLAIM = "crates/demand3/proofs/Demand3.antt"
 # They hand the period that they are given to functions of the claim, or back as it is. A period's
 # fields being private, another crate can do no more with one.
-PASSING_ON = {"day::ended", "day::refused", "day::take_day", "month::days::days"}
+PASSING_ON = {"day::Progress::take_day", "month::days::days"}
 
 TOKEN = re.compile(r"""//[^\n]*|/\*.*?\*/|b?"(?:\\.|[^"\\])*"|b'(?:\\.|[^\\'])+'|\w+|\S""", re.S)
 BRACKETS = {"(": 1, "[": 1, "{": 1, ")": -1, "]": -1, "}": -1}
@@ -45,7 +45,8 @@ def until(tokens, at, ends):
 def items(tokens, path, of=()):
     """Of each item its kind, its path, whether it is public, and the tokens of its type. `of` is
     the head of the impl block that the items stand in; what it has of a trait is public. A derive
-    is a function by the trait's name, but for `Clone` and `Copy`, which give the same value."""
+    is a function by the trait's name, but for `Clone` and `Copy`, which give the same value, and
+    `Drop`, which gives none."""
     at, public, derived = 0, "for" in of, []
     while at < len(tokens):
         word, first, at = tokens[at], at + 1, past(tokens, at)
@@ -67,7 +68,7 @@ def items(tokens, path, of=()):
             at = past(tokens, end)
             yield word, path + [tokens[first]], public, tokens[end:at]
             yield from (("fn", path + [tokens[first], trait], True, [tokens[first]])
-                        for trait in derived if trait[0].isupper() and trait not in ("Clone", "Copy"))
+                        for trait in derived if trait[0].isupper() and trait not in ("Clone", "Copy", "Drop"))
         elif word in ("type", "use") or word in ("const", "static") and tokens[first] != "fn":
             end = until(tokens, first, {";"} if word in ("type", "use") else {"=", ";"})
             at = past(tokens, until(tokens, end, {";"}))

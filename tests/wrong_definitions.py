@@ -28,7 +28,7 @@ TOP = os.path.join(os.path.dirname(os.path.abspath(__file__)), "..", "crates")
 # first, since what one lets through is held to the next; each with how many are checked at once.
 STAGES = ((None, 300), ("WorkedCalls", 60), ("Figures", 60), ("WorkedTexts", 30), ("WorkedLimits", 12))
 # Words for proofs and code, of which no statement of the outside speaks.
-NOT_OF_THE_DOCUMENT = ("Lines", "Lib")
+NOT_OF_THE_DOCUMENT = ("Lines", "Brought", "Lib")
 
 # A wrong definition: its file, the part of it that is replaced, and what it is called.
 Wrong = namedtuple("Wrong", "file start end new name")
@@ -45,10 +45,12 @@ INSTEAD = {
     "+ℤ": ["-ℤ"], "-ℤ": ["+ℤ"], "⊕": ["⊗"], "⊗": ["⊕"], "not": [""], "⁺": ["⁻"],
     "ltb": ["leb"], "leb": ["ltb"], "eqb": ["leb", "(λ x y. leb y x)"],
     "max": ["min", "◌+◌"], "ceil_div": ["round_div", "◌/◌"], "round_div": ["ceil_div", "◌/◌"],
-    "greatest": ["Σ"], "Σ": ["greatest"], "any": ["(λ test l. not (any (λ x. not (test x)) l))"],
+    "greatest": ["Σ"], "Σ": ["greatest"], "list_any": ["(λ test l. not (list_any (λ x. not (test x)) l))"],
     "take": ["drop"], "drop": ["take"], "true": ["false"], "false": ["true"], "pos": ["negsuc"],
-    "suc": [""], "keep": ["(λ test l. l)"], "descending": ["(λ l. l)"],
+    "suc": [""], "filter": ["(λ test l. l)"], "descending": ["(λ l. l)"],
+    "index": ["(suc index)"], "None": ["(Some 0)"],
 }
+ROWS = "BadOpening OutOfTurn BadDayNumber BadLengths NoLoss BadLine", "BadHeading BadAmount"
 SAME_TYPE = [names.split() for names in (
     ".n .k", ".margins .extras", ".margin .extra", ".member .number .kind", "o .held",
     "kind_h kind_r kind_a kind_u", "is_house is_r is_aor_u is_client", "prev h nobody", "e Max T", "M S D",
@@ -57,17 +59,17 @@ SAME_TYPE = [names.split() for names in (
     "Fresh Open Closed", "number index", "n k", "at i count used", "tab LF", "bad5 bad6 count",
     "last number", "margin extra fall", "room D", "m j m' k", "x y",
     "n_outside k_outside group_outside count_outside member_outside", "step accept",
-    "number_of below0", '"H" "R" "A" "U"', '"period" "member" "day" "acct" "end"',
+    *ROWS, "number_of below0", '"H" "R" "A" "U"', '"period" "member" "day" "acct" "end"',
     '"daily" "contribution" "fund" "refused" "total"', "ends bad", "minimum scale limit",
 )]
 # Their arguments may change places.
 COMMUTE = ("eqb", "max", "same")
 # Which argument of these is a list, to be cut short.
-OVER_A_LIST = {"Σ": 1, "Σℤ": 1, "Σᶠ": 1, "greatest": 1, "any": 2, "keep": 2, "map": 2, "flat_map": 2, "first_where": 2}
+OVER_A_LIST = {"Σ": 1, "Σℤ": 1, "Σᶠ": 1, "greatest": 1, "list_any": 2, "filter": 2, "map": 2, "flat_map": 2, "first_where": 2}
 # Where a name that stands in another's place is defined, if its file does not have it.
 FROM = {
     **dict.fromkeys((
-        "leb", "ltb", "eqb", "min", "max", "◌+◌", "◌-◌", "◌*◌", "◌/◌", "◌%◌", "negsuc", "pos", "◌-ℤ◌", "◌+ℤ◌", "cond", "not",
+        "leb", "ltb", "eqb", "min", "max", "suc", "Some", "◌+◌", "◌-◌", "◌*◌", "◌/◌", "◌%◌", "negsuc", "pos", "◌-ℤ◌", "◌+ℤ◌", "cond", "not",
         "◌||◌", "◌&&◌", "false", "true", "length", "take", "drop", "map", "◌++◌"), "Rattle.std.specs.Prelude"),
     "range": "Rattle.numbers.specs.Lists", "Σℤ": "Rattle.numbers.specs.Sums", "Σ": "Rattle.numbers.specs.Sums",
     "greatest": "Rattle.numbers.specs.Sums", "◌⁺": "Rattle.numbers.specs.Signed", "◌⁻": "Rattle.numbers.specs.Signed",
@@ -75,6 +77,7 @@ FROM = {
     "with_groups": "Rattle.methodology.specs.Account", "dailies": "Rattle.methodology.specs.Day",
     "own_max_eul": "Rattle.methodology.specs.Day", "reported_max_eul": "Rattle.methodology.specs.Contribution",
     "is_open": "Rattle.methodology.specs.Refusals",
+    **dict.fromkeys(" ".join(ROWS).split(), "Rattle.methodology.specs.declared.Refusal.TheVariants"),
 }
 
 # ---- wrong definitions that no change of one word makes: file, right, wrong
@@ -108,7 +111,7 @@ Contribution.exact_charge | cond (eqb D 0) (0 over 1) ((11 | cond (eqb D 0) ((11
 Contribution.charge | cond (eqb D 0) 0 | cond (eqb D 0) 50000000
 Contribution.funded | max rawCharge minimum | cond (eqb rawCharge 0) 0 (max rawCharge minimum)
 Contribution.contributions | flat_map (λ m. three (raw o days m)) (members o.n) | cond (eqb (length days) 0) [] (flat_map (λ m. three (raw o days m)) (members o.n))
-Register.refusal | closing_refusal g.status g.held room | cond (is_open g.status && eqb (length g.days) 0) (Row 8) (closing_refusal g.status g.held room)
+Register.refusal | closing_refusal g.status g.held room | cond (is_open g.status && eqb (length g.days) 0) (Err NoLoss) (closing_refusal g.status g.held room)
 Register.returned | length g.days ∷ highest | cond (eqb (highest g.held g.days) 0) 0 (length g.days) ∷ highest
 Register.accept | record { status = Closed; held | record { status = cond (eqb (length g.days) 0) Open Closed; held
 Register.accept | record { status = Closed; held | record { status = cond (eqb (length g.days) 0) Fresh Closed; held
@@ -120,8 +123,8 @@ Contribution.unfunded | 2 * funded rawCharge | funded (2 * rawCharge)
 Day.total | Σ (members o.n) | Σ (members (o.n - 1))
 Day.own_max_eul | λ j. member_under accts m j ⁺ | λ j. group_sum o accts m j ⁺
 Day.own_max_eul | (greatest (members o.n) (λ m. greatest (scenarios o.k) (λ j. member_under accts m j ⁺))) | (greatest (members o.n) (loss o.k accts))
-Day.own_max_eul | (greatest (members o.n) (λ m. greatest (scenarios o.k) (λ j. member_under accts m j ⁺)))⏎(greatest (members o.n) (λ m. greatest (scenarios o.k) | (greatest (members o.n) (λ m. greatest (keep (λ j. not (eqb j 7)) (scenarios o.k)) (λ j. member_under accts m j ⁺)))⏎(greatest (members o.n) (λ m. greatest (keep (λ j. not (eqb j 7)) (scenarios o.k))
-Day.own_max_eul | (greatest (members o.n) (λ m. greatest (scenarios o.k) (λ j. member_under accts m j ⁺)))⏎(greatest (members o.n) (λ m. greatest (scenarios o.k) | (greatest (members o.n) (λ m. greatest (keep (λ j. not (eqb j 15)) (scenarios o.k)) (λ j. member_under accts m j ⁺)))⏎(greatest (members o.n) (λ m. greatest (keep (λ j. not (eqb j 15)) (scenarios o.k))
+Day.own_max_eul | (greatest (members o.n) (λ m. greatest (scenarios o.k) (λ j. member_under accts m j ⁺)))⏎(greatest (members o.n) (λ m. greatest (scenarios o.k) | (greatest (members o.n) (λ m. greatest (filter (λ j. not (eqb j 7)) (scenarios o.k)) (λ j. member_under accts m j ⁺)))⏎(greatest (members o.n) (λ m. greatest (filter (λ j. not (eqb j 7)) (scenarios o.k))
+Day.own_max_eul | (greatest (members o.n) (λ m. greatest (scenarios o.k) (λ j. member_under accts m j ⁺)))⏎(greatest (members o.n) (λ m. greatest (scenarios o.k) | (greatest (members o.n) (λ m. greatest (filter (λ j. not (eqb j 15)) (scenarios o.k)) (λ j. member_under accts m j ⁺)))⏎(greatest (members o.n) (λ m. greatest (filter (λ j. not (eqb j 15)) (scenarios o.k))
 Day.group_of | cond (eqb (group_number o m) 0) (m ∷ []) | cond (eqb (group_number o m) 32) (m ∷ [])
 Day.group_of | cond (eqb (group_number o m) 0) (m ∷ []) | cond (leb (group_number o m) 1) (m ∷ [])
 Day.group_sum | member_under accts m' j) | pos (member_under accts m' j ⁺))
@@ -133,35 +136,37 @@ Account.largest_decrease | greatest (scenarios k) (decrease row) | decrease row 
 Account.decrease | (base row -ℤ stress row j) ⁺ | (stress row j -ℤ base row) ⁺
 Account.eul_of | pos fall -ℤ pos margin +ℤ pos extra | pos ((pos fall -ℤ pos margin +ℤ pos extra) ⁺)
 Account.eul_of | pos fall -ℤ pos margin +ℤ pos extra | pos fall -ℤ pos margin
-Member.house_eul | Σℤ (keep is_house accts) eul | Σℤ (keep is_house accts) (λ a. pos (eul a ⁺))
+Member.house_eul | Σℤ (filter is_house accts) eul | Σℤ (filter is_house accts) (λ a. pos (eul a ⁺))
 Member.half_of_clients | (λ a. eul a ⁺)) 2 | (λ a. eul a ⁻)) 2
-Member.half_of_clients | ceil_div (Σ (keep is_client accts) (λ a. eul a ⁺)) 2 | Σ (keep is_client accts) (λ a. ceil_div (eul a ⁺) 2)
-Member.half_of_clients | ceil_div (Σ (keep is_client accts) (λ a. eul a ⁺)) 2 | ceil_div (Σℤ (keep is_client accts) eul ⁺) 2
-Member.half_of_clients | ceil_div (Σ (keep is_client accts) (λ a. eul a ⁺)) 2 | Σ (keep is_client accts) (λ a. eul a ⁺)
+Member.half_of_clients | ceil_div (Σ (filter is_client accts) (λ a. eul a ⁺)) 2 | Σ (filter is_client accts) (λ a. ceil_div (eul a ⁺) 2)
+Member.half_of_clients | ceil_div (Σ (filter is_client accts) (λ a. eul a ⁺)) 2 | ceil_div (Σℤ (filter is_client accts) eul ⁺) 2
+Member.half_of_clients | ceil_div (Σ (filter is_client accts) (λ a. eul a ⁺)) 2 | Σ (filter is_client accts) (λ a. eul a ⁺)
 Member.two_largest_of_r | take 2 (descending | drop 0 (descending
 Member.part_c | (λ a. eul a ⁺) | (λ a. eul a ⁻)
 Member.loss | member_own k accts m ⁺ | greatest (range 1 k) (λ j. member_under accts m j ⁺)
 Refusals.member_skipped | ltb (prev.member + 1) h.member | ltb 0 prev.member && ltb (prev.member + 1) h.member
 Refusals.first_bad_heading | suc (first_bad_heading n h hs) | suc (first_bad_heading n prev hs)
-Refusals.bad_amount | any npv_outside a.npvs | any npv_outside (drop 1 a.npvs)
-Refusals.bad_amount | any npv_outside a.npvs | any npv_outside (take 2 a.npvs)
-Refusals.opening_refusal | row 2 when is_open s else row 1 when bad_opening o | row 1 when bad_opening o else row 2 when is_open s
+Refusals.bad_amount | list_any npv_outside a.npvs | list_any npv_outside (drop 1 a.npvs)
+Refusals.bad_amount | list_any npv_outside a.npvs | list_any npv_outside (take 2 a.npvs)
+Refusals.opening_refusal | row OutOfTurn when is_open s else row BadOpening when bad_opening o | row BadOpening when bad_opening o else row OutOfTurn when is_open s
+Numbers.row_index | (BadHeading index) = Some index | (BadHeading index) = None
+Numbers.row_index | (BadAmount index) = Some index | (BadAmount index) = None
 Register.step | if_accepted (refusal g c) (accept g c) g | accept g c
 Register.buffer | if_accepted (refusal g c) (written (step g c) c) before | written (step g c) c
 Contribution.raw | (length days) | (length (take 3 days))
-Day.group_of | (keep (λ m'. eqb (group_number o m') (group_number o m)) (members o.n)) | (take 2 (keep (λ m'. eqb (group_number o m') (group_number o m)) (members o.n)))
+Day.group_of | (filter (λ m'. eqb (group_number o m') (group_number o m)) (members o.n)) | (take 2 (filter (λ m'. eqb (group_number o m') (group_number o m)) (members o.n)))
 Day.group_of | eqb (group_number o m') (group_number o m) | eqb (group_number o m' % 16) (group_number o m % 16)
-Member.part_c | Σ (keep is_aor_u accts) (λ a. eul a ⁺) | Σℤ (keep is_aor_u accts) eul ⁺
-Member.two_largest_of_r | map (λ a. eul a ⁺) (keep is_r accts) | map (λ a. eul a ⁺) (take 2 (keep is_r accts))
-Member.part_b | max (half_of_clients eul accts) (two_largest_of_r eul accts) | cond (ltb 1 (length (keep is_r accts))) (max (half_of_clients eul accts) (two_largest_of_r eul accts)) (half_of_clients eul accts)
+Member.part_c | Σ (filter is_aor_u accts) (λ a. eul a ⁺) | Σℤ (filter is_aor_u accts) eul ⁺
+Member.two_largest_of_r | map (λ a. eul a ⁺) (filter is_r accts) | map (λ a. eul a ⁺) (take 2 (filter is_r accts))
+Member.part_b | max (half_of_clients eul accts) (two_largest_of_r eul accts) | cond (ltb 1 (length (filter is_r accts))) (max (half_of_clients eul accts) (two_largest_of_r eul accts)) (half_of_clients eul accts)
 Refusals.bad_input | (count * (o.k + 1)))⏎|| not (eqb (length d.margins) count)⏎|| not (eqb (length d.extras) count) | (length d.margins * (o.k + 1)))⏎|| not (eqb (length d.margins) (length d.extras))
-Refusals.bad_amount | any npv_outside a.npvs | any npv_outside (take 3 a.npvs)
-Refusals.bad_amount | any npv_outside a.npvs | any npv_outside (take 16 a.npvs)
+Refusals.bad_amount | list_any npv_outside a.npvs | list_any npv_outside (take 3 a.npvs)
+Refusals.bad_amount | list_any npv_outside a.npvs | list_any npv_outside (take 16 a.npvs)
 Refusals.first_not_zero | not (eqb prev.member h.member) && | ltb 0 prev.member && not (eqb prev.member h.member) &&
 Refusals.member_skipped | ltb (prev.member + 1) h.member | eqb (prev.member + 2) h.member
-Refusals.day_rows | row 3 when bad_day_number last d.terms.number else⏎account_rows o d | row 3 when outside 1 31 d.terms.number else⏎rows_of account_rows o d else⏎row 3 when leb d.terms.number last else⏎Clear
-Refusals.before_figures | row 4 when bad_output o room else⏎day_rows o last d | rows_of day_rows o last d else⏎row 4 when bad_output o room else⏎Clear
-Refusals.day_rows | row 3 when bad_day_number last d.terms.number else⏎account_rows o d | rows_of account_rows o d else⏎row 3 when bad_day_number last d.terms.number else⏎Clear
+Refusals.day_rows | row BadDayNumber when bad_day_number last d.terms.number else⏎account_rows o d | row BadDayNumber when outside 1 31 d.terms.number else⏎rows_of account_rows o d else⏎row BadDayNumber when leb d.terms.number last else⏎clear
+Refusals.before_figures | row BadLengths when bad_output o room else⏎day_rows o last d | rows_of day_rows o last d else⏎row BadLengths when bad_output o room else⏎clear
+Refusals.day_rows | row BadDayNumber when bad_day_number last d.terms.number else⏎account_rows o d | rows_of account_rows o d else⏎row BadDayNumber when bad_day_number last d.terms.number else⏎clear
 Register.accept | status = Open; held = o; days = [] | status = Open; held = o; days = cond (eqb o.n g.held.n) g.days []
 Register.accept | held = o; days = [] | held = with_groups o (cond (eqb o.n g.held.n) g.held.groups o.groups); days = []
 Register.step | if_accepted (refusal g c) (accept g c) g | if_accepted (refusal g c) (accept g c) (record { status = g.status; held = g.held; days = take 1 g.days })
@@ -176,13 +181,13 @@ Text.kind_of | cond (same f (bytes "H")) | cond (same f (bytes "H") || same f []
 Text.kind_of | cond (same f (bytes "H")) | cond (eqb (get_or f 0 0) 72)
 Text.kind_of | cond (same f (bytes "R")) | cond (same f (bytes "R") || same f (bytes "1"))
 Text.kind_of | cond (same f (bytes "H")) | cond (same f (bytes "H") || same f (bytes "0"))
-Text.bad_bytes | any (ltb 127) line | ltb 127 (get_or line 0 0)
+Text.bad_bytes | list_any (ltb 127) line | ltb 127 (get_or line 0 0)
 Text.numbers_after | same (get_or (fields line) 0 []) word | eqb (length (get_or (fields line) 0 [])) (length word)
 Text.numbers_after | same (get_or (fields line) 0 []) word | same (take (length word) line) word
 Text.account_of | same (get_or fs 0 []) (bytes "acct") | eqb (length (get_or fs 0 [])) 4
 Text.account_of | same (get_or fs 0 []) (bytes "acct") | same (take 4 line) (bytes "acct")
 Text.numbers_after | same (get_or (fields line) 0 []) word | same (get_or (fields line) 0 []) (take (length (get_or (fields line) 0 [])) word)
-Text.read_period | cond (n_outside n || k_outside k) (ends (refused_line 1 i)) | cond false (ends (refused_line 1 i))
+Text.read_period | cond (n_outside n || k_outside k) (ends (refused_line BadOpening i)) | cond false (ends (refused_line BadOpening i))
 Text.read_line | cond (same l (bytes "end")) | cond (same (take 3 l) (bytes "end"))
 Text.sized | (day after) | (day g)
 Text.totals | ∷ column_sum 5 n out 4 ∷ [] | ∷ []
@@ -333,12 +338,16 @@ def order_changes(text, tokens):
 def row_changes(text):
     """A row of the refusal table dropped, or exchanged with the next."""
     lines = list(re.finditer(r"    (?:row|rows_of) .*? else\n", text))
+
+    def named(row):
+        return row.group().split()[1].strip("(")
+
     for i, row in enumerate(lines):
-        yield row.start(), row.end(), "", "row " + row.group().split()[1] + " dropped"
+        yield row.start(), row.end(), "", f"row {named(row)} dropped"
         if i + 1 < len(lines) and lines[i + 1].start() == row.end():
             after = lines[i + 1]
             yield (row.start(), after.end(), after.group() + row.group(),
-                   f"row {after.group().split()[1]} before row {row.group().split()[1]}")
+                   f"row {named(after)} before row {named(row)}")
 
 
 def source(path):

@@ -1,5 +1,3 @@
-pub mod Npvs
-pub mod FiveColumns
 pub mod Line
 pub mod Stores
 pub mod AcctLoop

@@ -3,16 +3,18 @@
 use mathlib.Core.Path.{◌≡◌, refl, sym, ap, subst, ◌∙◌}
 use mathlib.Core.Bool.{false, true≢false, cond}
 use mathlib.Core.List.{List, [], ◌∷◌, ◌++◌, append-nil}
-use Prim.Native.Nat.{ℕ, ◌+◌, ◌*◌}
+use Prim.Native.Nat.{ℕ, ◌*◌}
 use lib.ListN.{length}
-use Rattle.methodology.specs.declared.Refusal.TheVariants.{Clear}
+use Rattle.std.specs.Prelude.{Ok}
+use Rattle.methodology.specs.Numbers.{row_index}
+use Rattle.methodology.specs.Refusals.{clear}
 use Rattle.methodology.specs.declared.Opening.{Opening}
 use Rattle.methodology.specs.Account.{DayInput}
 use Rattle.methodology.specs.Register.{Call, Register, start, refusal, accept, step, returned, written, answer_by, answer, buffer}
-use Rattle.methodology.specs.Text.{refused_line, day_lines, fund_lines, Expected, day, opened as Text·opened, sized as Text·sized, closed as Text·closed, followed_by}
+use Rattle.methodology.specs.Text.{refused_line, line_named, day_lines, fund_lines, Expected, day, followed_by}
+use Rattle.methodology.specs.Text.{opened as Text·opened, sized as Text·sized, closed as Text·closed}
 use Rattle.methodology.proofs.Passed.{step_clear}
-use Rattle.period.specs.declared.Outcome.{Outcome}
-use Rattle.period.specs.declared.Outcome.TheVariants.{Closed}
+use Rattle.period.specs.declared.Accepted.TheVariants.{Closed}
 use Rattle.period.specs.declared.Period.{Period}
 use Rattle.period.specs.declared.Reply.{Reply}
 use Rattle.period.specs.Reading.{answer_of}
@@ -20,9 +22,10 @@ use Rattle.period.specs.Calls.{fresh_period, OpeningMeets, DayMeets, ClosingMeet
 use Rattle.period.specs.Follows.{Follows}
 use Rattle.period.proofs.Simulation.{starts, opening_follows, day_follows, closing_follows}
 use Rattle.answers.specs.InStep.{InStep}
-use Rattle.answers.specs.Said.{said, is_over}
-use Rattle.answers.proofs.RefusalRows.{is_clear, is_row, is_row_at}
-use Rattle.answers.proofs.Outcomes.{OfOpening, opened, unopened, opening_outcome, OfDay, sized, unsized, unsized_at, day_outcome, OfClosing, closed, unclosed, closing_outcome}
+use Rattle.answers.specs.Said.{Outcome, said, is_over}
+use Rattle.answers.proofs.RefusalRows.{is_clear, told_line, told_own_line, is_told}
+use Rattle.answers.proofs.Outcomes.{OfOpening, opened, unopened, opening_outcome, OfDay, sized, unsized, day_outcome}
+use Rattle.answers.proofs.Outcomes.{OfClosing, closed, unclosed, closing_outcome}
 
 -- ---- the opening
 
@@ -42,7 +45,9 @@ module _ (o : Opening) (r : Reply) (m : OpeningMeets fresh_period o r) where
       by : (x : Outcome) → r.outcome ≡ x → OfOpening x
           → followed_by (Text·opened (refusal start first) o) rest ≡ said x 0 1 0 [] ++ cond (is_over x) [] (rest (day (step start first)))
       by x e opened = rw (is_clear (refusal start first) _ _ (first_told e)).0
-      by x e (unopened row) = rw (is_row (refusal start first) _ _ (first_told e)) (sym (append-nil (refused_line row 1)))
+      by x e (unopened told h) =
+          let t = is_told (refusal start first) _ told (first_told e) in
+          rw t.is (told_own_line t h 1 ∙ sym (append-nil (refused_line told (line_named 1 (row_index told)))))
 
   pub opening_in_step : is_over r.outcome ≡ false → InStep (step start first) r.period o.n o.k
   unfolding accept is_over
@@ -52,7 +57,7 @@ module _ (o : Opening) (r : Reply) (m : OpeningMeets fresh_period o r) where
       by x e opened t =
           let h : (step start first).held ≡ o = ap (λ (g : Register). g.held) (step_clear start first (is_clear (refusal start first) _ _ (first_told e)).0) in
           record { follows = (opening_follows starts m).0; members = ap (λ (o : Opening). o.n) h; scenarios = ap (λ (o : Opening). o.k) h }
-      by x e (unopened row) t = absurd (true≢false t)
+      by x e (unopened told h) t = absurd (true≢false t)
 
 -- ---- a day
 
@@ -68,20 +73,28 @@ module _ (n k : ℕ) (g : Register) (period : Period) (h : InStep g period n k) 
   room_is : length before ≡ 5 * g.held.n
   room_is = room ∙ ap (λ (x : ℕ). 5 * x) (sym h.members)
 
-  follows : Follows (step g call) r.period × (answer_of r.outcome ≡ answer g call) × (figures ≡ buffer g call before)
-  follows = subst (λ (x : ℕ). Follows (step g (Call.day d x)) r.period × (answer_of r.outcome ≡ answer g (Call.day d x)) × (figures ≡ buffer g (Call.day d x) before)) room_is (day_follows h.follows m)
+  abbrev FollowsBy : Call → Type 0
+  FollowsBy c = Follows (step g c) r.period × (answer_of r.outcome ≡ answer g c) × (figures ≡ buffer g c before)
+
+  follows : FollowsBy call
+  follows = subst (λ (x : ℕ). FollowsBy (Call.day d x)) room_is (day_follows h.follows m)
 
   told : {o : Outcome} → r.outcome ≡ o → answer_by (refusal g call) (returned (step g call) call) ≡ answer_of o
   unfolding answer
   told e = sym follows.1 ∙ ap answer_of e
 
   -- where the table lets it pass
-  module _ (c : refusal g call ≡ Clear) where
+  module _ (c : refusal g call ≡ clear) where
     held_is : (step g call).held ≡ g.held
     held_is = ap (λ (x : Register). x.held) (step_clear g call c) ∙ day_kept g d (5 * g.held.n)
 
     still_in_step : InStep (step g call) r.period n k
-    still_in_step = record { follows = follows.0; members = ap (λ (o : Opening). o.n) held_is ∙ h.members; scenarios = ap (λ (o : Opening). o.k) held_is ∙ h.scenarios }
+    still_in_step =
+        record {
+          follows = follows.0;
+          members = ap (λ (o : Opening). o.n) held_is ∙ h.members;
+          scenarios = ap (λ (o : Opening). o.k) held_is ∙ h.scenarios;
+        }
 
     written_is : figures ≡ written (step g call) call
     unfolding buffer
@@ -102,8 +115,9 @@ module _ (n k : ℕ) (g : Register) (period : Period) (h : InStep g period n k) 
       by o e (sized total max) =
           let (c, f) = is_clear (refusal g call) _ _ (told e) in
           rw c (ap (λ (l : List ℕ). l ++ rest (day (step g call))) (lines_are c total max f))
-      by o e (unsized row) = rw (is_row (refusal g call) _ _ (told e)) (sym (append-nil (refused_line row line)))
-      by o e (unsized_at row index few) = rw (is_row_at (refusal g call) _ _ _ (told e)) (sym (append-nil (refused_line row (line + 1 + index))))
+      by o e (unsized row few) =
+          let t = is_told (refusal g call) _ row (told e) in
+          rw t.is (told_line t line ∙ sym (append-nil (refused_line row (line_named line (row_index row)))))
 
   pub day_in_step : is_over r.outcome ≡ false → InStep (step g call) r.period n k
   unfolding is_over
@@ -111,8 +125,7 @@ module _ (n k : ℕ) (g : Register) (period : Period) (h : InStep g period n k) 
     where
       by : (o : Outcome) → r.outcome ≡ o → OfDay o → is_over o ≡ false → InStep (step g call) r.period n k
       by o e (sized total max) t = still_in_step (is_clear (refusal g call) _ _ (told e)).0
-      by o e (unsized row) t = absurd (true≢false t)
-      by o e (unsized_at row index few) t = absurd (true≢false t)
+      by o e (unsized row few) t = absurd (true≢false t)
 
 -- ---- the closing
 
@@ -128,19 +141,23 @@ module _ (n k : ℕ) (g : Register) (period : Period) (h : InStep g period n k) 
   last_room : length before ≡ 3 * g.held.n
   last_room = room ∙ ap (λ (x : ℕ). 3 * x) (sym h.members)
 
-  last_follows : (answer_of r.outcome ≡ answer g last) × (figures ≡ buffer g last before)
-  last_follows = subst (λ (x : ℕ). (answer_of r.outcome ≡ answer g (Call.closing x)) × (figures ≡ buffer g (Call.closing x) before)) last_room ((closing_follows h.follows m).1, (closing_follows h.follows m).2)
+  abbrev SaidBy : Call → Type 0
+  SaidBy c = (answer_of r.outcome ≡ answer g c) × (figures ≡ buffer g c before)
+
+  last_follows : SaidBy last
+  last_follows = let f = closing_follows h.follows m in subst (λ (x : ℕ). SaidBy (Call.closing x)) last_room (f.1, f.2)
 
   last_told : {o : Outcome} → r.outcome ≡ o → answer_by (refusal g last) (returned (step g last) last) ≡ answer_of o
   unfolding answer
   last_told e = sym last_follows.0 ∙ ap answer_of e
 
-  fund_is : (days highest funds : ℕ) → r.outcome ≡ Closed days highest funds
+  fund_is : (days highest funds : ℕ) → r.outcome ≡ Ok (Closed days highest funds)
       → Text·closed (refusal g last) g line ≡ fund_lines n (days ∷ highest ∷ funds ∷ []) figures
   unfolding Text·closed buffer
   fund_is days highest funds e =
       let (c, f) = is_clear (refusal g last) _ _ (last_told e) in
-      let members : (step g last).held.n ≡ n = ap (λ (x : Register). x.held.n) (step_clear g last c) ∙ ap (λ (o : Opening). o.n) (closing_kept g (3 * g.held.n)) ∙ h.members in
+      let kept : (step g last).held ≡ g.held = ap (λ (x : Register). x.held) (step_clear g last c) ∙ closing_kept g (3 * g.held.n) in
+      let members : (step g last).held.n ≡ n = ap (λ (o : Opening). o.n) kept ∙ h.members in
       let w : figures ≡ written (step g last) last = last_follows.1 ∙ rw c in
       rw (c, f, ← w, members)
 
@@ -150,4 +167,6 @@ module _ (n k : ℕ) (g : Register) (period : Period) (h : InStep g period n k) 
     where
       by : (o : Outcome) → r.outcome ≡ o → OfClosing o → Text·closed (refusal g last) g line ≡ said o 0 line n figures
       by o e (closed days highest funds) = fund_is days highest funds e
-      by o e (unclosed row) = rw (is_row (refusal g last) _ _ (last_told e))
+      by o e (unclosed row h) =
+          let t = is_told (refusal g last) _ row (last_told e) in
+          rw t.is (told_own_line t h line)

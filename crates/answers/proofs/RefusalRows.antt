@@ -1,23 +1,46 @@
--- The row of the refusal table that an answer tells.
-use mathlib.Core.Path.{◌≡◌, refl, ap}
+-- What an answer tells of the refusal table: that it lets the call pass, or a row by its number and index.
+use mathlib.Core.Path.{◌≡◌, refl, sym}
 use mathlib.Core.List.{List}
 use Prim.Native.Nat.{ℕ}
 use native.Mathlib.Omega.{arith}
+use Rattle.std.specs.Prelude.{Option, Some, None, Ok, Err}
 use Rattle.methodology.specs.declared.Refusal.{Refusal}
-use Rattle.methodology.specs.declared.Refusal.TheVariants.{Clear, Row, RowAt}
-use Rattle.methodology.specs.Register.{accepted, refused, refused_at, answer_by}
+use Rattle.methodology.specs.Numbers.{row_number, row_index}
+use Rattle.methodology.specs.Refusals.{Verdict, clear}
+use Rattle.methodology.specs.Register.{accepted, refused_with, refused_by, answer_by}
+use Rattle.methodology.specs.Text.{refused_line, line_named}
 
-pub is_clear : (x : Refusal) (figures ys : List ℕ) → answer_by x figures ≡ accepted ys → (x ≡ Clear) × (figures ≡ ys)
-is_clear Clear figures ys e = (refl, cc)
-is_clear (Row number) figures ys e = absurd (let z : ◌≡◌ {A = ℕ} 0 1 = cc in omega arith)
-is_clear (RowAt number index) figures ys e = absurd (let z : ◌≡◌ {A = ℕ} 0 1 = cc in omega arith)
+accepted_only : (figures : List ℕ) (number : ℕ) (index : Option ℕ) → accepted figures ≡ refused_with number index → ⊥
+accepted_only figures number None e = let z : ◌≡◌ {A = ℕ} 0 1 = cc in omega arith
+accepted_only figures number (Some i) e = let z : ◌≡◌ {A = ℕ} 0 1 = cc in omega arith
 
-pub is_row : (x : Refusal) (figures : List ℕ) (number : ℕ) → answer_by x figures ≡ refused number → x ≡ Row number
-is_row Clear figures number e = absurd (let z : ◌≡◌ {A = ℕ} 0 1 = cc in omega arith)
-is_row (Row n) figures number e = ap Row cc
-is_row (RowAt n index) figures number e = absurd (let z : ◌≡◌ {A = ℕ} 0 1 = cc in omega arith)
+same_row : (n m : ℕ) (i j : Option ℕ) → refused_with n i ≡ refused_with m j → (n ≡ m) × (i ≡ j)
+same_row n m None None e = (cc, refl)
+same_row n m None (Some j) e = let z : ◌≡◌ {A = ℕ} 0 1 = cc in absurd (omega arith)
+same_row n m (Some i) None e = let z : ◌≡◌ {A = ℕ} 0 1 = cc in absurd (omega arith)
+same_row n m (Some i) (Some j) e = (cc, cc)
 
-pub is_row_at : (x : Refusal) (figures : List ℕ) (number index : ℕ) → answer_by x figures ≡ refused_at number index → x ≡ RowAt number index
-is_row_at Clear figures number index e = absurd (let z : ◌≡◌ {A = ℕ} 0 1 = cc in omega arith)
-is_row_at (Row n) figures number index e = absurd (let z : ◌≡◌ {A = ℕ} 0 1 = cc in omega arith)
-is_row_at (RowAt n i) figures number index e = cc
+pub is_clear : (x : Verdict) (figures ys : List ℕ) → answer_by x figures ≡ accepted ys → (x ≡ clear) × (figures ≡ ys)
+is_clear (Ok _) figures ys e = (refl, cc)
+is_clear (Err met) figures ys e = absurd (accepted_only ys (row_number met) (row_index met) (sym e))
+
+-- the row that a call meets is the one that is told
+pub record Told (x : Verdict) (told : Refusal) : Type 0 where
+  pub met : Refusal
+  pub is : x ≡ Err met
+  pub number : row_number met ≡ row_number told
+  pub index : row_index met ≡ row_index told
+
+-- and is printed alike, under the line that it names, which is the call's own where it has no index
+module _ {x : Verdict} {told : Refusal} (t : Told x told) where
+  pub told_line : (i : ℕ) → refused_line t.met (line_named i (row_index t.met)) ≡ refused_line told (line_named i (row_index told))
+  told_line i = rw (t.number, t.index)
+
+  pub told_own_line : row_index told ≡ None → (i : ℕ) → refused_line t.met i ≡ refused_line told (line_named i (row_index told))
+  told_own_line h i = rw (t.number, h)
+
+pub is_told : (x : Verdict) (figures : List ℕ) (told : Refusal) → answer_by x figures ≡ refused_by told → Told x told
+is_told (Ok _) figures told e = absurd (accepted_only figures (row_number told) (row_index told) e)
+is_told (Err met) figures told e =
+    let (n, i) = same_row (row_number met) (row_number told) (row_index met) (row_index told) e in
+    record { met = met; is = refl; number = n; index = i }

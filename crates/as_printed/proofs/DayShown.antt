@@ -1,17 +1,19 @@
 -- What a call's answer prints, as it is read back: an accepted day's lines add up, and a closing's lines and a refusal's are no day's.
 use mathlib.Core.Path.{◌≡◌, refl, sym, ap, subst, ◌∙◌}
-use mathlib.Core.Bool.{true, true≢false}
+use mathlib.Core.Bool.{true, false≢true}
 use mathlib.Core.List.{List, [], ◌∷◌, ◌++◌, map, map-map, map-id}
 use Prim.Native.Nat.{ℕ, suc, ◌-◌, ◌*◌, ◌≤◌}
 use native.Mathlib.Omega.{arith}
 use lib.ListN.{length, get_or, take}
-use Rattle.numbers.specs.Lists.{range, any, Every}
+use Rattle.numbers.specs.Lists.{range, Every}
 use Rattle.numbers.specs.Sums.{Σ}
 use Rattle.numbers.proofs.Lists.{mem_range, part_length, every_append, every_map, every_take, every_drop}
 use Rattle.numbers.proofs.Sums.{Σ-map}
 use Rattle.methodology.specs.Account.{members}
 use Rattle.methodology.specs.Text.{bytes, same, stretch, refused_line, rows, column_sum, totals, day_lines, fund_lines}
-use Rattle.methodology.proofs.RowLimits.{occurs}
+use Rattle.methodology.specs.declared.Refusal.{Refusal}
+use Rattle.methodology.specs.Numbers.{row_number}
+use Rattle.methodology.proofs.RowLimits.{occurs, at_most_9, row_occurs}
 use Rattle.demand3.specs.Demand3.{Fits64}
 use Rattle.as_printed.specs.AsPrinted.{Line, worded, DayRead, lines_of_day, AddsUp, Other, Counts}
 use Rattle.as_printed.proofs.PrintedLines.{Word, Shows, shows_line, shows_then, shows_each}
@@ -39,7 +41,7 @@ module _ (number n T Max : ℕ) (out : List ℕ) where
 
   pub day_shows : Every Fits64 (number ∷ T ∷ Max ∷ []) → Every Fits64 out → Every Fits64 (totals n out) → n ≤ 32
       → Shows (day_lines number n (T ∷ Max ∷ []) out) (lines_of_day as_read)
-  unfolding day_lines bytes any
+  unfolding day_lines bytes
   day_shows head fit sums few =
       let lines = sym (map-map (worded (bytes "daily")) (of_member 5 out) (members n)) in
       let records = subst (Shows (rows (bytes "daily") 5 n out)) lines (shows_rows (bytes "daily") 5 n out (refl, refl) few fit) in
@@ -63,45 +65,41 @@ module _ (number n T Max : ℕ) (out : List ℕ) where
   pub day_told : Every Told (lines_of_day as_read)
   unfolding bytes same
   day_told =
-      let daily = every_map Told (worded (bytes "daily")) as_read.records (λ numbers i e. absurd (true≢false (sym e))) in
-      ((λ e. absurd (true≢false (sym e))), every_append Told (map (worded (bytes "daily")) as_read.records) _ daily ((λ e. absurd (true≢false (sym e))), tt))
+      let daily = every_map Told (worded (bytes "daily")) as_read.records (λ numbers i e. absurd (false≢true e)) in
+      ((λ e. absurd (false≢true e)), every_append Told (map (worded (bytes "daily")) as_read.records) _ daily ((λ e. absurd (false≢true e)), tt))
 
 -- ---- what ends a report
 
-abbrev fund_read : (n : ℕ) (figures out : List ℕ) → List Line
-fund_read n figures out = (worded (bytes "fund") figures ∷ []) ++ map (λ m. worded (bytes "contribution") (of_member 3 out m)) (members n)
+-- bytes that are lines of no day; where they tell of a fund it has this D and this M
+pub record Ends (D M : ℕ) (s : List ℕ) : Type 0 where
+  pub lines : List Line
+  pub shows : Shows s lines
+  pub other : Every Other lines
+  pub counts : Every (Counts D M) lines
+  pub told : Every Told lines
 
-pub fund_shows : (n : ℕ) (figures out : List ℕ) → Every Fits64 figures → Every Fits64 out → n ≤ 32
-    → Shows (fund_lines n figures out) (fund_read n figures out)
-unfolding fund_lines bytes any
-fund_shows n figures out head fit few =
-    shows_then (shows_line (bytes "fund") figures (refl, refl) head) (shows_rows (bytes "contribution") 3 n out (refl, refl) few fit)
+-- a closing's D and M stand first
+pub fund_ends : {D M : ℕ} (n : ℕ) (figures out : List ℕ) → Every Fits64 figures → Every Fits64 out → n ≤ 32 → take 2 figures ≡ D ∷ M ∷ []
+    → Ends D M (fund_lines n figures out)
+unfolding fund_lines bytes same
+fund_ends {D} {M} n figures out head fit few is =
+    record {
+      lines = (worded (bytes "fund") figures ∷ []) ++ map (λ m. worded (bytes "contribution") (of_member 3 out m)) (members n);
+      shows = shows_then (shows_line (bytes "fund") figures (refl, refl) head) (shows_rows (bytes "contribution") 3 n out (refl, refl) few fit);
+      other = (refl, every_map Other _ (members n) (λ m i. refl));
+      counts = ((λ e. is), every_map (Counts D M) _ (members n) (λ m i e. absurd (false≢true e)));
+      told = ((λ e. absurd (false≢true e)), every_map Told _ (members n) (λ m i e. absurd (false≢true e)));
+    }
 
-pub fund_other : (n : ℕ) (figures out : List ℕ) → Every Other (fund_read n figures out)
+-- a refusal tells its row's number
+pub refusal_ends : {D M : ℕ} (met : Refusal) (line : ℕ) → Fits64 line → Ends D M (refused_line met line)
 unfolding bytes same
-fund_other n figures out = (refl, every_map Other _ (members n) (λ m i. refl))
-
--- its D and its M stand first
-pub fund_counts : {D M : ℕ} (n : ℕ) (figures out : List ℕ) → take 2 figures ≡ D ∷ M ∷ [] → Every (Counts D M) (fund_read n figures out)
-unfolding bytes same
-fund_counts {D} {M} n figures out is = ((λ e. is), every_map (Counts D M) _ (members n) (λ m i e. absurd (true≢false (sym e))))
-
--- no line of it tells of a refusal
-pub fund_told : (n : ℕ) (figures out : List ℕ) → Every Told (fund_read n figures out)
-unfolding bytes same
-fund_told n figures out = ((λ e. absurd (true≢false (sym e))), every_map Told _ (members n) (λ m i e. absurd (true≢false (sym e))))
-
-pub refused_shows : (number line : ℕ) → Fits64 number → Fits64 line → Shows (refused_line number line) (worded (bytes "refused") (number ∷ line ∷ []) ∷ [])
-unfolding bytes any
-refused_shows number line h k = shows_line (bytes "refused") (number ∷ line ∷ []) (refl, refl) (h, (k, tt))
-
-pub refused_other : (number line : ℕ) → Every Other (worded (bytes "refused") (number ∷ line ∷ []) ∷ [])
-unfolding bytes same
-refused_other number line = (refl, tt)
-
-pub refused_counts : {D M : ℕ} (number line : ℕ) → Every (Counts D M) (worded (bytes "refused") (number ∷ line ∷ []) ∷ [])
-unfolding bytes same
-refused_counts number line = ((λ e. absurd (true≢false (sym e))), tt)
-
-pub refused_told : (number line : ℕ) → occurs number ≡ true → Every Told (worded (bytes "refused") (number ∷ line ∷ []) ∷ [])
-refused_told number line h = ((λ e. h), tt)
+refusal_ends met line fit =
+    let number : Fits64 (row_number met) = omega (arith, at_most_9 (row_number met) (row_occurs met)) in
+    record {
+      lines = worded (bytes "refused") (row_number met ∷ line ∷ []) ∷ [];
+      shows = shows_line (bytes "refused") (row_number met ∷ line ∷ []) (refl, refl) (number, (fit, tt));
+      other = (refl, tt);
+      counts = ((λ e. absurd (false≢true e)), tt);
+      told = ((λ e. row_occurs met), tt);
+    }

@@ -1,7 +1,7 @@
 -- Every report read back, by what it is made of: the lines of each accepted day add up, and what ends the report has no day's lines. With
 -- it the claim is whole: `as_printed`.
 use mathlib.Core.Path.{◌≡◌, refl, sym, ap, subst, ◌∙◌}
-use mathlib.Core.Bool.{true, true≢false}
+use mathlib.Core.Bool.{false≢true}
 use mathlib.Core.List.{List, [], ◌∷◌, ◌++◌, map, flat_map, append-nil, append_assoc}
 use Prim.Native.Nat.{ℕ, ◌+◌, ◌*◌, ◌≤◌, ◌<◌, ◌^◌}
 use native.Mathlib.Nat.{add-zero}
@@ -9,14 +9,13 @@ use native.Mathlib.Omega.{arith}
 use lib.ListN.{length, get_or, drop}
 use Rattle.numbers.specs.Lists.{Every}
 use Rattle.numbers.proofs.Lists.{every_append}
-use Rattle.methodology.specs.declared.Refusal.TheVariants.{Clear}
 use Rattle.methodology.specs.Account.{DayInput, accounts}
 use Rattle.methodology.specs.Day.{total}
 use Rattle.methodology.specs.Contribution.{KeptDay, reported_max_eul, highest}
+use Rattle.methodology.specs.Refusals.{clear}
 use Rattle.methodology.specs.Register.{Call, Register, start, refusal, accept, step, returned, written}
-use Rattle.methodology.specs.Text.{LF, bytes, same, split, fields, value_from, refused_line, totals, report_of}
+use Rattle.methodology.specs.Text.{LF, bytes, same, split, fields, value_from, totals, report_of}
 use Rattle.methodology.proofs.Passed.{step_clear}
-use Rattle.methodology.proofs.RowLimits.{occurs, at_most_9}
 use Rattle.methodology.proofs.SoFar.{reported_is_m, day_reports}
 use Rattle.methodology.proofs.Enough.{rises}
 use Rattle.methodology.proofs.Reports.{day_call, closing_call, sized_lines, Rest, a_day_lem, a_fund, a_refusal, Report, a_period, no_period, reports}
@@ -29,7 +28,7 @@ use Rattle.as_printed.specs.AsPrinted.{Line, lines_of, InDecimal, DayRead, lines
 use Rattle.as_printed.proofs.DaySums.{record_is, sums_are_of_five, first_sum_is_t}
 use Rattle.as_printed.proofs.ReadBack.{digits_alone, no_leading_zero, reads_back, reads_back_as_text}
 use Rattle.as_printed.proofs.PrintedLines.{Shows}
-use Rattle.as_printed.proofs.DayShown.{Told, as_read, day_shows, day_adds_up, day_told, fund_shows, fund_other, fund_counts, fund_told, refused_shows, refused_other, refused_counts, refused_told}
+use Rattle.as_printed.proofs.DayShown.{Told, as_read, day_shows, day_adds_up, day_told, Ends, fund_ends, refusal_ends}
 
 -- ---- what is read back
 
@@ -43,12 +42,11 @@ last_part : Every InDecimal (split LF [])
 unfolding split
 last_part = (record { fields_are = refl; fit = tt }, tt)
 
--- lines of no day end a report
-ends_so : {n before top : ℕ} {s : List ℕ} {lines : List Line} → Shows s lines → Every Other lines → Every (Counts before top) lines → Every Told lines
-    → ReadsBack n before top s
+ends_so : {n before top : ℕ} {s : List ℕ} → Ends before top s → ReadsBack n before top s
 unfolding flat_map split same bytes
-ends_so {before = before} {top = top} {s = s} {lines = lines} shows other counts told =
-    let whole = subst (λ (l : List ℕ). lines_of l ≡ lines ++ lines_of []) (append-nil s) (shows.are []) in
+ends_so {before = before} {top = top} {s = s} e =
+    let lines = e.lines in
+    let whole = subst (λ (l : List ℕ). lines_of l ≡ lines ++ lines_of []) (append-nil s) (e.shows.are []) in
     record {
       days_add_up =
           record {
@@ -57,11 +55,11 @@ ends_so {before = before} {top = top} {s = s} {lines = lines} shows other counts
             whole = whole;
             add_up = tt;
             never_fall = tt;
-            no_day = every_append Other lines (lines_of []) other (refl, tt);
-            all_there = rw add-zero (every_append (Counts before top) lines (lines_of []) counts ((λ e. absurd (true≢false (sym e))), tt));
+            no_day = every_append Other lines (lines_of []) e.other (refl, tt);
+            all_there = rw add-zero (every_append (Counts before top) lines (lines_of []) e.counts ((λ is. absurd (false≢true is)), tt));
           };
-      all_decimal = subst (λ (l : List ℕ). Every InDecimal (split LF l)) (append-nil s) (shows.decimal_too [] last_part);
-      all_told = rw whole (every_append Told lines (lines_of []) told ((λ e. absurd (true≢false (sym e))), tt));
+      all_decimal = subst (λ (l : List ℕ). Every InDecimal (split LF l)) (append-nil s) (e.shows.decimal_too [] last_part);
+      all_told = rw whole (every_append Told lines (lines_of []) e.told ((λ is. absurd (false≢true is)), tt));
     }
 
 day_so : {n before top : ℕ} {s rest : List ℕ} {d : DayRead} → Shows s (lines_of_day d) → AddsUp n d → Every Told (lines_of_day d) → top ≤ d.Max
@@ -89,13 +87,8 @@ day_so {before = before} {rest = rest} {d = d} shows adds told higher more =
 
 -- ---- the parts of a report
 
-refused_back : {n before top : ℕ} (number line : ℕ) → occurs number ≡ true → line < 2 ^ 32 → ReadsBack n before top (refused_line number line)
-refused_back number line h k =
-    let shows = refused_shows number line (omega (arith, at_most_9 number h)) (omega arith) in
-    ends_so shows (refused_other number line) (refused_counts number line) (refused_told number line h)
-
 -- an accepted day, and the register as it leaves it
-module _ {g : Register} (k : Kept g) (d : DayInput) (clear : refusal g (day_call g d) ≡ Clear) where
+module _ {g : Register} (k : Kept g) (d : DayInput) (passes : refusal g (day_call g d) ≡ clear) where
   abbrev call : Call
   call = day_call g d
 
@@ -119,7 +112,7 @@ module _ {g : Register} (k : Kept g) (d : DayInput) (clear : refusal g (day_call
   max_is_m = reported_is_m after.held after.days
 
   higher : highest g.held g.days ≤ Max
-  higher = omega (arith, day_reports g d (5 * g.held.n) clear)
+  higher = omega (arith, day_reports g d (5 * g.held.n) passes)
 
   fit : CallFits g call
   fit = call_fits k call
@@ -128,13 +121,13 @@ module _ {g : Register} (k : Kept g) (d : DayInput) (clear : refusal g (day_call
   few = fit.kept.follows.good.members_few
 
   sums_fit : Every Fits64 (totals n out)
-  sums_fit = totals_fit n out few (writes_few k d (5 * g.held.n) clear)
+  sums_fit = totals_fit n out few (writes_few k d (5 * g.held.n) passes)
 
   day_back : Shows (sized_lines after d call) (lines_of_day (as_read d.terms.number n T Max out))
   unfolding returned
   day_back =
-      let number = rises g d (5 * g.held.n) clear in
-      day_shows d.terms.number n T Max out (omega arith, fit.returned_fits clear) (fit.written_fits clear) sums_fit few
+      let number = rises g d (5 * g.held.n) passes in
+      day_shows d.terms.number n T Max out (omega arith, fit.returned_fits passes) (fit.written_fits passes) sums_fit few
 
   day_sums : AddsUp n (as_read d.terms.number n T Max out)
   unfolding written
@@ -154,41 +147,38 @@ module _ {g : Register} (k : Kept g) (d : DayInput) (clear : refusal g (day_call
 rest_back : {last : ℕ} {g : Register} {s : List ℕ} → last < 2 ^ 32 → Kept g → Rest last g s
     → ReadsBack g.held.n (length g.days) (highest g.held g.days) s
 unfolding accept returned
-rest_back {g = g} near k (a_day_lem {rest = rest} d clear more) =
+rest_back {g = g} near k (a_day_lem {rest = rest} d passes more) =
     let call = day_call g d in
     let after = step g call in
-    let members = ap (λ (x : Register). x.held.n) (step_clear g call clear) in
-    let count : length after.days ≡ length g.days + 1 = ap (λ (x : Register). length x.days) (step_clear g call clear) ∙ omega arith in
+    let members = ap (λ (x : Register). x.held.n) (step_clear g call passes) in
+    let count : length after.days ≡ length g.days + 1 = ap (λ (x : Register). length x.days) (step_clear g call passes) ∙ omega arith in
     let top = highest g.held g.days in
-    let later = rest_back near (fit k d clear).kept more in
-    let reported = subst (λ (top : ℕ). ReadsBack after.held.n (length after.days) top rest) (sym (max_is_m k d clear)) later in
-    let counted = subst (λ (before : ℕ). ReadsBack after.held.n before (Max k d clear) rest) count reported in
+    let later = rest_back near (fit k d passes).kept more in
+    let reported = subst (λ (top : ℕ). ReadsBack after.held.n (length after.days) top rest) (sym (max_is_m k d passes)) later in
+    let counted = subst (λ (before : ℕ). ReadsBack after.held.n before (Max k d passes) rest) count reported in
     subst (λ (n : ℕ). ReadsBack n (length g.days) top (sized_lines after d call ++ rest)) members
-    (day_so (day_back k d clear) (day_sums k d clear) (no_refusal k d clear) (higher k d clear) counted)
-rest_back {g = g} near k (a_fund clear) =
+    (day_so (day_back k d passes) (day_sums k d passes) (no_refusal k d passes) (higher k d passes) counted)
+rest_back {g = g} near k (a_fund passes) =
     let call = closing_call g in
     let after = step g call in
     let fit = call_fits k call in
     let few = fit.kept.follows.good.members_few in
-    let first_two = ap (λ (x : Register). length x.days ∷ highest x.held x.days ∷ []) (step_clear g call clear) in
-    ends_so (fund_shows after.held.n (returned after call) (written after call) (fit.returned_fits clear) (fit.written_fits clear) few)
-    (fund_other after.held.n (returned after call) (written after call))
-    (fund_counts after.held.n (returned after call) (written after call) first_two)
-    (fund_told after.held.n (returned after call) (written after call))
-rest_back near k (a_refusal number line h in-text) = refused_back number line h (omega arith)
+    let first_two = ap (λ (x : Register). length x.days ∷ highest x.held x.days ∷ []) (step_clear g call passes) in
+    ends_so (fund_ends after.held.n (returned after call) (written after call) (fit.returned_fits passes) (fit.written_fits passes) few first_two)
+rest_back near k (a_refusal met line in-text) = ends_so (refusal_ends met line (omega arith))
 
 report_back : {n last : ℕ} {s : List ℕ} → last < 2 ^ 32 → Report n last s → ReadsBack n 0 0 s
 unfolding accept
-report_back {n} {s = s} near (a_period o is few clear rest) =
+report_back {n} {s = s} near (a_period o is few passes rest) =
     let after = step start (Call.opening o) in
-    let members = ap (λ (x : Register). x.held.n) (step_clear start (Call.opening o) clear) ∙ is in
-    let none : after.days ≡ [] = ap (λ (x : Register). x.days) (step_clear start (Call.opening o) clear) in
+    let members = ap (λ (x : Register). x.held.n) (step_clear start (Call.opening o) passes) ∙ is in
+    let none : after.days ≡ [] = ap (λ (x : Register). x.days) (step_clear start (Call.opening o) passes) in
     let m_is : highest after.held after.days ≡ 0 = rw none (highest_none after.held) in
     let back = rest_back near (call_fits kept_first (Call.opening o)).kept rest in
     let of-all = subst (λ (n : ℕ). ReadsBack n (length after.days) (highest after.held after.days) s) members back in
     let counted = subst (λ (days : List KeptDay). ReadsBack n (length days) (highest after.held after.days) s) none of-all in
     subst (λ (top : ℕ). ReadsBack n 0 top s) m_is counted
-report_back near (no_period number line h in-text) = refused_back number line h (omega arith)
+report_back near (no_period met line in-text) = ends_so (refusal_ends met line (omega arith))
 
 -- the number of members, off the text's first line
 told : (fs : List (List ℕ)) → value_from 0 (get_or fs 1 []) ≡ get_or (map (value_from 0) (drop 1 fs)) 0 0
@@ -220,9 +210,9 @@ as_printed =
       reads_back = reads_back;
       reads_back_as_text = reads_back_as_text;
       accepted_fits =
-          λ calls c clear.
+          λ calls c passes.
           let f = call_fits (kept_after kept_first calls) c in
-          record { returned_fits = f.returned_fits clear; written_fits = f.written_fits clear };
+          record { returned_fits = f.returned_fits passes; written_fits = f.written_fits passes };
       read_as_summed = λ calls. summed (kept_after kept_first calls);
       all_decimal = λ text. (every_report text).all_decimal;
       days_add_up = λ text. (every_report text).days_add_up;

@@ -7,7 +7,8 @@ use Prim.Native.Nat.{ℕ, ◌<◌}
 use native.Mathlib.Omega.{arith}
 use lib.Dec.{eqb}
 use borrow.Author.Tests.{eq-eqb, ne_eqb}
-use Rattle.numbers.specs.Lists.{any, Every}
+use Rattle.std.specs.List.{list_any}
+use Rattle.numbers.specs.Lists.{Every}
 use mathlib.Core.List.Memᴰ.{head as here}
 use mathlib.Core.List.Memᴰ.{tail as there}
 use Rattle.numbers.proofs.Lists.{◌∈◌, any_false, mem_every, every_weaken, every_append, every_flat_map}
@@ -38,9 +39,9 @@ decimal_without b x h = every_weaken Digit _ (λ y d. ne_eqb y b (λ e. omega (a
 
 -- a word has neither tab nor LF
 abbrev pub Word : List ℕ → Type 0
-Word w = (any (λ x. eqb x tab) w ≡ false) × (any (λ x. eqb x LF) w ≡ false)
+Word w = (list_any (λ x. eqb x tab) w ≡ false) × (list_any (λ x. eqb x LF) w ≡ false)
 
-pub without : (b : ℕ) (w : List ℕ) → any (λ x. eqb x b) w ≡ false → Without b w
+pub without : (b : ℕ) (w : List ℕ) → list_any (λ x. eqb x b) w ≡ false → Without b w
 without b w e = mem_every _ w (λ x i. any_false (λ x. eqb x b) e i)
 
 -- the fields after the word, and the line before its LF

@@ -2,14 +2,15 @@
 use mathlib.Core.Path.{◌≡◌, refl}
 use mathlib.Core.Bool.{false, not, ◌&&◌, cond}
 use mathlib.Core.List.{List, [], ◌∷◌, ◌++◌}
-use mathlib.Core.Option.{some}
+use Rattle.std.specs.Prelude.{Some}
 use Prim.Native.Nat.{ℕ, zero, suc, ◌+◌, ◌-◌, ◌*◌, ◌/◌, ◌%◌, ◌^◌, ◌≤◌, ◌<◌}
 use native.Mathlib.Nat.{pow-suc}
 use native.Mathlib.Omega.{arith}
 use lib.Dec.{ltb, eqb}
 use lib.ListN.{length, get_or, length-append, get_or-append}
 use borrow.Author.Tests.{lt-ltb, le-ltb, ne_eqb, ltb-true, ltb-false}
-use Rattle.numbers.specs.Lists.{any, Every}
+use Rattle.std.specs.List.{list_any}
+use Rattle.numbers.specs.Lists.{Every}
 use Rattle.numbers.proofs.Lists.{none_any, every_mem, every_append}
 use Rattle.methodology.specs.Text.{is_digit, value_from, number_of, digits, decimal}
 use Rattle.methodology.proofs.Passed.{by_test}
@@ -79,12 +80,12 @@ unfolding digits
 no_leading_zero zero h = refl
 no_leading_zero (suc x) h = rw (ne_eqb (get_or (decimal (suc x)) 0 0) 48 (λ e. omega (arith, first_digit 19 (suc x) (omega arith) h)))
 
-pub digits_alone : (x : ℕ) → any (λ b. not (is_digit b)) (decimal x) ≡ false
+pub digits_alone : (x : ℕ) → list_any (λ b. not (is_digit b)) (decimal x) ≡ false
 digits_alone x =
     let digit = every_mem Digit (decimal x) (all_digits 19 x) in
     none_any _ (decimal x) (λ b i. let d = digit b i in rw (le-ltb b 48 d.0, le-ltb 57 b d.1))
 
-pub reads_back_as_text : (x : ℕ) → x < 10 ^ 13 → number_of (decimal x) ≡ some x
+pub reads_back_as_text : (x : ℕ) → x < 10 ^ 13 → number_of (decimal x) ≡ Some x
 unfolding number_of
 reads_back_as_text x h =
     let least = le-ltb (length (decimal x)) 1 (some_digits 19 x) in

@@ -2,14 +2,15 @@
 -- first equals T." `AsPrinted` is the claim. By Change 3 it says of the days' Max EULs too what is read off.
 use Rattle.std.specs.Prelude.{◌≡◌, true, false, not, ◌&&◌, ◌||◌, ℕ, ◌+◌, ◌*◌, ◌^◌, ◌≤◌, ◌<◌, eqb, ltb, length, get_or, take, drop}
 use mathlib.Core.List.{List, [], ◌∷◌, ◌++◌, map, flat_map}
-use Rattle.std.proofs.Math.Option.{some}
-use Rattle.numbers.specs.Lists.{range, any, Every}
+use Rattle.std.specs.Prelude.{Some}
+use Rattle.std.specs.List.{fold, list_any}
+use Rattle.numbers.specs.Lists.{range, Every}
 use Rattle.numbers.specs.Sums.{Σ}
-use Rattle.methodology.specs.declared.Refusal.TheVariants.{Clear}
 use Rattle.methodology.specs.declared.Opening.{Opening}
 use Rattle.methodology.specs.Account.{DayInput, Account, members}
 use Rattle.methodology.specs.Member.{loss}
 use Rattle.methodology.specs.Day.{total, share, value, reserve, estimate, five, dailies}
+use Rattle.methodology.specs.Refusals.{clear}
 use Rattle.methodology.specs.Register.{Call, Register, start, refusal, step, returned, written}
 use Rattle.methodology.specs.Text.{LF, bytes, same, split, fields, is_digit, value_from, number_of, decimal, stretch, totals, day_lines, report_of}
 use Rattle.demand3.specs.Demand3.{Fits64}
@@ -83,8 +84,7 @@ NeverFall top [] = Unit {0}
 NeverFall top (d ∷ ds) = (top ≤ d.Max) × NeverFall d.Max ds
 
 abbrev pub last_max : (top : ℕ) → List DayRead → ℕ
-last_max top [] = top
-last_max top (d ∷ ds) = last_max d.Max ds
+last_max = fold (λ top d. d.Max)
 
 -- A report of n members, or what is left of it after `before` accepted days, the last of which reported `top`, is its accepted days, each of
 -- which adds up, and after them other lines. Where there is a fund its D is the number of the days, so that none is left out, and its M is
@@ -102,8 +102,7 @@ pub record DaysAddUp (n before top : ℕ) (report : List ℕ) : Type 0 where
 
 -- the register that is fed these calls, refused ones among them
 abbrev pub register_fed : Register → List Call → Register
-register_fed g [] = g
-register_fed g (c ∷ cs) = register_fed (step g c) cs
+register_fed = fold step
 
 -- what an accepted call returned and wrote is below 2^64, where g is the register as the call leaves it
 pub record AcceptedFits (g : Register) (call : Call) : Type 0 where
@@ -149,18 +148,18 @@ pub record AsPrinted : Type 0 where
   pub first_sum_is_t : (o : Opening) (Max : ℕ) (accts : List Account) → get_or (totals o.n (dailies o Max accts)) 0 0 ≡ total o accts
   -- A number below 10^20 is printed in digits alone, with no leading zero, which have its value; where there are at most 13 they are that
   -- number to the reader of a text.
-  pub digits_alone : (x : ℕ) → any (λ b. not (is_digit b)) (decimal x) ≡ false
+  pub digits_alone : (x : ℕ) → list_any (λ b. not (is_digit b)) (decimal x) ≡ false
   pub no_leading_zero : (x : ℕ) → x < 10 ^ 20 → (eqb (get_or (decimal x) 0 0) 48 && ltb 1 (length (decimal x))) ≡ false
   pub reads_back : (x : ℕ) → x < 10 ^ 20 → value_from 0 (decimal x) ≡ x
-  pub reads_back_as_text : (x : ℕ) → x < 10 ^ 13 → number_of (decimal x) ≡ some x
+  pub reads_back_as_text : (x : ℕ) → x < 10 ^ 13 → number_of (decimal x) ≡ Some x
   -- every accepted call, and every accepted day, after any calls
   pub accepted_fits : (calls : List Call) (c : Call)
       → let g = register_fed start calls in
-      refusal g c ≡ Clear → AcceptedFits (step g c) c
+      refusal g c ≡ clear → AcceptedFits (step g c) c
   pub read_as_summed : (calls : List Call) (d : DayInput)
       → let g = register_fed start calls in
       let call = Call.day d (5 * g.held.n) in
-      refusal g call ≡ Clear → ReadAsSummed (step g call) d call
+      refusal g call ≡ clear → ReadAsSummed (step g call) d call
   -- every line of every report
   pub all_decimal : (text : List ℕ) → Every InDecimal (split LF (report_of text))
   -- "Each sum equals that of the day's records as printed, and the first equals T." The days' Max EULs never fall, and M is the last (Change 3).

@@ -24,7 +24,7 @@ three_wide r = refl
 
 -- the numbers that stand in the buffer
 module _ (o : Opening) (days : List KeptDay) where
-  pub contributions_long : length (contributions o days) ≡ 3 * o.n
+  contributions_long : length (contributions o days) ≡ 3 * o.n
   unfolding contributions
   contributions_long = rows_length 3 (λ m. three (raw o days m)) (λ m. three_wide (raw o days m)) (members o.n) ∙ ap (λ (x : ℕ). 3 * x) (range_length 1 o.n)
 
@@ -35,11 +35,11 @@ module _ (o : Opening) (days : List KeptDay) where
         rows_at 3 (λ m. three (raw o days m)) (λ m. three_wide (raw o days m)) (members o.n) (m - 1) j 0 0 (omega (arith, range_length 1 o.n)) h
         ∙ ap (λ (x : ℕ). get_or (three (raw o days x)) j 0) (range_at 1 o.n (m - 1) 0 (omega arith) ∙ omega arith)
 
-    pub raw_is : raw_in (contributions o days) m ≡ raw o days m
+    raw_is : raw_in (contributions o days) m ≡ raw o days m
     unfolding three
     raw_is = ap (λ (x : ℕ). get_or (contributions o days) x 0) (omega arith) ∙ number_at 0 (omega arith)
 
-    pub funded_is : funded_in (contributions o days) m ≡ funded (raw o days m)
+    funded_is : funded_in (contributions o days) m ≡ funded (raw o days m)
     unfolding three
     funded_is = number_at 1 (omega arith)
 
@@ -47,17 +47,17 @@ module _ (o : Opening) (days : List KeptDay) where
   over_members : (f g : ℕ → ℕ) → ((m : ℕ) → 1 ≤ m → m ≤ o.n → f m ≡ g m) → Σ (members o.n) f ≡ Σ (members o.n) g
   over_members f g h = Σ-eq (members o.n) f g (λ m i. let b = mem_range 1 o.n i in h m b.0 (omega (arith, b.1)))
 
-  pub raws_are : Σ (members o.n) (raw_in (contributions o days)) ≡ Σ (members o.n) (raw o days)
+  raws_are : Σ (members o.n) (raw_in (contributions o days)) ≡ Σ (members o.n) (raw o days)
   raws_are = over_members _ _ raw_is
 
-  pub fundeds_are : Σ (members o.n) (funded_in (contributions o days)) ≡ total_funded o days
+  fundeds_are : Σ (members o.n) (funded_in (contributions o days)) ≡ total_funded o days
   unfolding total_funded
   fundeds_are = over_members _ _ funded_is
 
   shortfalls_are : Σ (members o.n) (λ m. shortfall (raw_in (contributions o days) m)) ≡ Σ (members o.n) (λ m. shortfall (raw o days m))
   shortfalls_are = over_members _ _ (λ m low high. ap shortfall (raw_is m low high))
 
-  pub excess_is : Σ (members o.n) (funded_in (contributions o days)) ≡ Σ (members o.n) (raw_in (contributions o days)) + Σ (members o.n) (λ m. shortfall (raw_in (contributions o days) m))
+  excess_is : Σ (members o.n) (funded_in (contributions o days)) ≡ Σ (members o.n) (raw_in (contributions o days)) + Σ (members o.n) (λ m. shortfall (raw_in (contributions o days) m))
   unfolding total_funded
   excess_is = fundeds_are ∙ rw (raws_are, shortfalls_are) (funded_sum (members o.n) (raw o days))
 

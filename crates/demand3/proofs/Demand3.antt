@@ -20,21 +20,19 @@ use contract.Running.{Running, within}
 use denote.Triple.Entry.{Args, Res}
 use denote.Triple.Spec.{Meets as Meets-spec}
 use denote.Triple.Clauses.{Ended, ClausesAt, Clauses, AtExit, closing as closing-of}
-use lib.ListN.{take}
-use Rattle.methodology.specs.declared.Refusal.TheVariants.{Clear}
+use Rattle.methodology.specs.Brought.{day_brought}
+use Rattle.methodology.specs.Refusals.{clear}
 use Rattle.methodology.specs.Register.{start, refusal}
 use Rattle.period.specs.declared.Period.{Period}
-use Rattle.period.specs.Reading.{brought, day_brought, answer_of}
+use Rattle.period.specs.Reading.{brought, answer_of}
 use Rattle.period.specs.Calls.{fresh_period}
 use Rattle.period.specs.contracts.Period.fresh as fresh-fn
 use Rattle.period.specs.contracts.Period.opening as opening-fn
 use Rattle.period.specs.contracts.Period.day as day-fn
-use Rattle.period.specs.contracts.Period.day_of as day-of-fn
 use Rattle.period.specs.contracts.Period.closing as closing-fn
 use Rattle.period.proofs.Period.fresh.Symbol as fresh-code
 use Rattle.period.proofs.Period.opening.Symbol as opening-code
 use Rattle.period.proofs.Period.day.Symbol as day-code
-use Rattle.period.proofs.Period.day_of.Symbol as day-of-code
 use Rattle.period.proofs.Period.closing.Symbol as closing-code
 use Rattle.demand3.specs.Made.{Asked, Made, call_of, Meets, MadeOn}
 use Rattle.demand3.specs.Demand3.{Covers, Holds, register_after, Narrow, CanBeMade}
@@ -59,15 +57,12 @@ fresh = record { ended = fresh-fn.ended; clauses = fresh-fn.clauses; code = fres
 pub data Method : Type 0 where
   opening : Method
   day : Method
-  day_of : Method
   closing : Method
 
 abbrev pub compiled : Method → Compiled
 compiled opening =
     record { ended = opening-fn.ended; clauses = opening-fn.clauses; code = opening-code.code; name = opening-code.name }
 compiled day = record { ended = day-fn.ended; clauses = day-fn.clauses; code = day-code.code; name = day-code.name }
-compiled day_of =
-    record { ended = day-of-fn.ended; clauses = day-of-fn.clauses; code = day-of-code.code; name = day-of-code.name }
 compiled closing =
     record { ended = closing-fn.ended; clauses = closing-fn.clauses; code = closing-code.code; name = closing-code.name }
 
@@ -80,21 +75,15 @@ pub record CallOf (f : Compiled) : Type 0 where
   pub result : Res f.ended.signature κs
   pub exit : AtExit f.ended κs
 
--- The period that a call was given, and the call in plain values: which of its arguments is which. `day_of` is a day call like `day`.
+-- The period that a call was given, and the call in plain values: which of its arguments is which.
 abbrev pub in_plain : (f : Method) → CallOf (compiled f) → Period × Made
 in_plain opening c =
     let (self, (n, (k, (groups, _)))) = c.arguments in
     (self, record { asked = Asked.opening (brought n k groups.now); reply = c.result; after = [] })
 in_plain day c =
-    let (self, (terms, (headings, (npvs, (margins, (extras, (out, _))))))) = c.arguments in
-    let (_, (_, (_, (_, (_, (_, (after, _))))))) = c.exit in
-    let d = day_brought terms headings.now npvs.now margins.now extras.now in
-    (self, record { asked = Asked.day d out.now; reply = c.result; after = after.now })
-in_plain day_of c =
-    let (self, (terms, (headings, (count, (npvs, (margins, (extras, (out, _)))))))) = c.arguments in
-    let (_, (_, (_, (_, (_, (_, (_, (after, _)))))))) = c.exit in
-    let d = day_brought terms (take count headings) npvs.now margins.now extras.now in
-    (self, record { asked = Asked.day d out.now; reply = c.result; after = after.now })
+    let (self, (d, (out, _))) = c.arguments in
+    let (_, (_, (after, _))) = c.exit in
+    (self, record { asked = Asked.day (day_brought d.now) out.now; reply = c.result; after = after.now })
 in_plain closing c =
     let (self, (out, _)) = c.arguments in
     let (_, (after, _)) = c.exit in
@@ -173,7 +162,7 @@ pub record Demand3 : Type 2 where
   -- `every_list` the closing then says so.
   pub last_closing :
       (cs : List Made) (c : Made) (out : List ℕ) → c.asked ≡ Asked.closing out → MadeOn fresh_period (cs ++ (c ∷ []))
-      → refusal (register_after start cs) (call_of c.asked) ≡ Clear
+      → refusal (register_after start cs) (call_of c.asked) ≡ clear
       → Covers (register_after start (cs ++ (c ∷ []))) (answer_of c.reply.outcome) c.after
   -- It is not about nothing: calls with any arguments can be made, of numbers that fit 64 bits.
   pub every_list_can_be_made : (arguments : List Asked) → CanBeMade fresh_period arguments
@@ -189,5 +178,5 @@ pub record Demand3 : Type 2 where
   pub compiled_closing :
       {M : Type 1} {𝓤 : Ura M} (𝓛 : Logic 𝓤) (mem : Memory → SProp 𝓤) (run : Routine → Fun 𝓤)
       (cs : List Called) (c : Called) (out : List ℕ) → (made_of c).asked ≡ Asked.closing out → FromFresh 𝓛 mem run (cs ++ (c ∷ []))
-      → refusal (register_after start (map made_of cs)) (call_of (made_of c).asked) ≡ Clear
+      → refusal (register_after start (map made_of cs)) (call_of (made_of c).asked) ≡ clear
       → Covers (register_after start (map made_of (cs ++ (c ∷ [])))) (answer_of (made_of c).reply.outcome) (made_of c).after

@@ -15,22 +15,23 @@ use denote.Triple.Clauses.{closing as closing-of}
 use types.Logic.{Logic}
 use contract.Monad.{Fun, fact}
 use contract.Notation.{connectives}
+use Rattle.methodology.specs.Register.{start}
 use Rattle.period.specs.declared.Period.{Period}
 use Rattle.period.specs.Reading.{brought}
 use Rattle.period.specs.Calls.{fresh_period}
 use Rattle.period.proofs.Period.fresh.Met as fresh-proved
 use Rattle.period.proofs.Period.opening.Met as opening-proved
 use Rattle.period.proofs.Period.day.Met as day-proved
-use Rattle.period.proofs.Period.day_of.Met as day-of-proved
 use Rattle.period.proofs.Period.closing.Met as closing-proved
 use Rattle.period.proofs.Simulation.{starts}
 use Rattle.demand3.specs.Made.{Meets, MadeOn}
+use Rattle.demand3.specs.Demand3.{Holds}
 use Rattle.demand3.proofs.EveryList.{holds, last_closing}
 use Rattle.demand3.proofs.Fitting.{narrow_fresh, can_be_made}
 use Rattle.demand3.proofs.Facts.{fact_holds, period_set, opening_prop, meets_prop, no_buffer}
 use Rattle.demand3.proofs.Returns.{returns}
 use contract.Running.{Running, strict, within}
-use Rattle.demand3.proofs.Demand3.{Compiled, fresh, Method, opening, day, day_of, closing, compiled, CallOf, Called, given, made_of, EnsuredBy, AsEnsured, Linked, FromFresh, Upholds, Promised, Demand3}
+use Rattle.demand3.proofs.Demand3.{Compiled, fresh, Method, opening, day, closing, compiled, CallOf, Called, given, made_of, EnsuredBy, AsEnsured, Linked, FromFresh, Upholds, Promised, Demand3}
 
 -- What is claimed of a function follows from its met contract and its clauses. The machine on a program is an environment that has what the
 -- program has.
@@ -70,7 +71,6 @@ upholds opening =
     let o = brought n k groups.now in
     record { ghost = Unit {0}; requires = λ _. (connectives 𝓤).⊤ₛ; ensures = λ _ r e. fact 𝓤 (no_buffer (opening_prop self o r) i) })
 upholds day = upheld (compiled day) (Promised day) (λ M 𝓤 𝓛 𝓜 𝓡 w. day-proved.met 𝓤 𝓛 𝓜 𝓡 w) (λ M 𝓤 𝓛 mem run κs a. refl)
-upholds day_of = upheld (compiled day_of) (Promised day_of) (λ M 𝓤 𝓛 𝓜 𝓡 w. day-of-proved.met 𝓤 𝓛 𝓜 𝓡 w) (λ M 𝓤 𝓛 mem run κs a. refl)
 upholds closing = upheld (compiled closing) (Promised closing) (λ M 𝓤 𝓛 𝓜 𝓡 w. closing-proved.met 𝓤 𝓛 𝓜 𝓡 w) (λ M 𝓤 𝓛 mem run κs a. refl)
 
 -- compiled calls are calls that were made
@@ -107,3 +107,8 @@ demand_3 =
           let made = subst (MadeOn fresh_period) split (fresh_made 𝓛 mem run (cs ++ (c ∷ [])) f) in
           rw split (last_closing starts (map made_of cs) (made_of c) out is made e);
     }
+
+-- of compiled calls, the first ones and those after them
+pub compiled_holds : {M : Type 1} {𝓤 : Ura M} (𝓛 : Logic 𝓤) (mem : Memory → SProp 𝓤) (run : Routine → Fun 𝓤)
+    (cs ds : List Called) → FromFresh 𝓛 mem run (cs ++ ds) → Holds start (map made_of cs ++ map made_of ds)
+compiled_holds 𝓛 mem run cs ds from = subst (Holds start) (map-append made_of cs ds) (demand_3.compiled_lists 𝓛 mem run (cs ++ ds) from)

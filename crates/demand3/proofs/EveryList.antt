@@ -4,18 +4,18 @@ use mathlib.Core.List.{List, [], ◌∷◌, ◌++◌}
 use Prim.Native.Nat.{ℕ, ◌<◌}
 use native.Mathlib.Omega.{arith}
 use lib.ListN.{length}
-use Rattle.methodology.specs.declared.Refusal.{Refusal}
-use Rattle.methodology.specs.declared.Refusal.TheVariants.{Clear, Row, RowAt}
+use Rattle.std.specs.Prelude.{Option, Some, None, Ok, Err}
 use Rattle.methodology.specs.declared.Opening.{Opening}
-use Rattle.methodology.specs.Register.{Call, Register, refusal, accept, if_accepted, step, returned, written, Answer, accepted, answer_by, answer, buffer}
-use Rattle.methodology.proofs.Passed.{step_clear}
-use Rattle.validation.proofs.OpeningPasses.{opening_leaves}
+use Rattle.methodology.specs.Numbers.{row_number, row_index}
+use Rattle.methodology.specs.Refusals.{Verdict, clear}
+use Rattle.methodology.specs.Register.{Call, Register, refusal, accept, if_accepted, step, returned, written, Answer, accepted, refused_with, answer_by, answer, buffer}
+use Rattle.methodology.proofs.Passed.{step_clear, either}
 use Rattle.period.specs.declared.Period.{Period}
 use Rattle.period.specs.declared.Reply.{Reply}
 use Rattle.period.specs.Reading.{answer_of}
 use Rattle.period.specs.Calls.{held_by}
 use Rattle.period.specs.Follows.{Good, Follows}
-use Rattle.period.proofs.Closings.{closable, in_range_lem}
+use Rattle.period.proofs.InRange.{held_opened, closable}
 use Rattle.period.proofs.Simulation.{held_by_lem, closing_row_lem, opening_follows, day_follows, closing_follows}
 use Rattle.demand3.specs.Made.{Asked, Made, call_of, Meets, MadeOn}
 use Rattle.demand3.specs.Demand3.{Agrees, Covers, AtClosing, Holds, register_after, by_answer, from_answers}
@@ -24,30 +24,25 @@ use Rattle.demand3.proofs.Covering.{covers}
 -- an opening is lent no buffer
 nothing_written : (g : Register) (o : Opening) → [] ≡ buffer g (Call.opening o) []
 unfolding buffer written
-nothing_written g o = by (refusal g (Call.opening o))
-  where
-    by : (x : Refusal) → [] ≡ if_accepted {A = List ℕ} x [] []
-    by Clear = refl
-    by (Row number) = refl
-    by (RowAt number index) = refl
+nothing_written g o = either (λ (l : List ℕ). [] ≡ l) (refusal g (Call.opening o)) [] [] (λ e. refl) refl
 
 -- a period that is closed was opened, and so has members
-some_members : {g : Register} {p : Period} → Follows g p → (room : ℕ) → refusal g (Call.closing room) ≡ Clear → 0 < (step g (Call.closing room)).held.n
+some_members : {g : Register} {p : Period} → Follows g p → (room : ℕ) → refusal g (Call.closing room) ≡ clear → 0 < (step g (Call.closing room)).held.n
 unfolding accept
 some_members {g} {p} f room e =
-    let range = in_range_lem (closable p room (closing_row_lem f room ∙ e)) in
+    let limits = held_opened (closable p room (closing_row_lem f room ∙ e)).in_range_lem in
     let left = ap (λ (g : Register). g.held) (step_clear g (Call.closing room) e) in
     let held : held_by p ≡ (step g (Call.closing room)).held = held_by_lem f ∙ sym left in
-    subst (λ (o : Opening). 0 < o.n) held (omega (arith, (opening_leaves (held_by p) range.opened).members_some))
+    subst (λ (o : Opening). 0 < o.n) held (omega (arith, limits.members_some))
 
 closes : {g : Register} {p : Period} → Follows g p → (c : Made) → Agrees g c → Good (step g (call_of c.asked)) → AtClosing g c
 unfolding answer buffer
 closes {g} f c a q out is e =
     let k = Call.closing (length out) in
-    let clear : refusal g k ≡ Clear = rw is at e in
-    let said : answer_of c.reply.outcome ≡ accepted (returned (step g k) k) = a.answer ∙ rw (is, clear) in
-    let wrote : c.after ≡ written (step g k) k = a.buffer ∙ rw (is, clear) in
-    rw (said, wrote, is) (covers (step g k) (length out) (rw is at q.counted) (some_members f (length out) clear))
+    let passes : refusal g k ≡ clear = rw is at e in
+    let said : answer_of c.reply.outcome ≡ accepted (returned (step g k) k) = a.answer ∙ rw (is, passes) in
+    let wrote : c.after ≡ written (step g k) k = a.buffer ∙ rw (is, passes) in
+    rw (said, wrote, is) (covers (step g k) (length out) (rw is at q.counted) (some_members f (length out) passes))
 
 -- one call, which the register follows
 pub agrees : {g : Register} {p : Period} → Follows g p → (a : Asked) (r : Reply) (after : List ℕ) → Meets p a r after
@@ -76,7 +71,7 @@ holds {g = g} {p = p} f (c ∷ cs) (m, ms) =
 
 -- where the last call is an accepted closing
 pub last_closing : {g : Register} {p : Period} → Follows g p → (cs : List Made) (c : Made) (out : List ℕ) → c.asked ≡ Asked.closing out
-    → MadeOn p (cs ++ (c ∷ [])) → refusal (register_after g cs) (call_of c.asked) ≡ Clear
+    → MadeOn p (cs ++ (c ∷ [])) → refusal (register_after g cs) (call_of c.asked) ≡ clear
     → Covers (register_after g (cs ++ (c ∷ []))) (answer_of c.reply.outcome) c.after
 last_closing f [] c out is (m, _) e = (one f c m).2 out is e
 last_closing {g = g} {p = p} f (b ∷ cs) c out is (m, ms) e =
@@ -93,12 +88,15 @@ last_agrees g cs c h = (holds_from g cs (c ∷ []) h).0
 -- What a caller keeps from the answers is what the register gives, if that is so of each accepted call.
 module _ {X : Type 0} (note : Asked → (figures : List ℕ) → X → X) (of : Register → X)
     (accepted-so : (g : Register) (a : Asked) → note a (returned (accept g (call_of a)) (call_of a)) (of g) ≡ of (accept g (call_of a))) where
-  by_row : (g : Register) (a : Asked) (x : Refusal)
+  by_refused : (a : Asked) (number : ℕ) (index : Option ℕ) (x : X) → by_answer note a (refused_with number index) x ≡ x
+  by_refused a number None x = refl
+  by_refused a number (Some index) x = refl
+
+  by_row : (g : Register) (a : Asked) (x : Verdict)
       → let after = if_accepted x (accept g (call_of a)) g in
       by_answer note a (answer_by x (returned after (call_of a))) (of g) ≡ of after
-  by_row g a Clear = accepted-so g a
-  by_row g a (Row number) = refl
-  by_row g a (RowAt number index) = refl
+  by_row g a (Ok _) = accepted-so g a
+  by_row g a (Err met) = by_refused a (row_number met) (row_index met) (of g)
 
   by_one : (g : Register) (c : Made) → Agrees g c → by_answer note c.asked (answer_of c.reply.outcome) (of g) ≡ of (step g (call_of c.asked))
   unfolding step answer
@@ -108,12 +106,3 @@ module _ {X : Type 0} (note : Asked → (figures : List ℕ) → X → X) (of : 
   from_answers_lem g [] ds h = refl
   from_answers_lem g (c ∷ cs) ds (agreed, _, h) =
       ap (λ (x : X). from_answers note x cs) (by_one g c agreed) ∙ from_answers_lem (step g (call_of c.asked)) cs ds h
-
-pub from_answers_more : {X : Type 0} (note : Asked → (figures : List ℕ) → X → X) (x : X) (cs ds : List Made)
-    → from_answers note x (cs ++ ds) ≡ from_answers note (from_answers note x cs) ds
-from_answers_more note x [] ds = refl
-from_answers_more note x (c ∷ cs) ds = from_answers_more note (by_answer note c.asked (answer_of c.reply.outcome) x) cs ds
-
-pub after_one : (g : Register) (cs : List Made) (a : Made) → register_after g (cs ++ (a ∷ [])) ≡ step (register_after g cs) (call_of a.asked)
-after_one g [] a = refl
-after_one g (b ∷ cs) a = after_one (step g (call_of b.asked)) cs a

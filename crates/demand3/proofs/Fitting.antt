@@ -6,36 +6,37 @@ use mathlib.Core.List.{List, [], ◌∷◌, flat_map}
 use Prim.Native.Nat.{ℕ, ◌+◌, ◌*◌, ◌≤◌, ◌<◌}
 use native.Mathlib.Omega.{arith}
 use lib.ListN.{length, get_or, replicate}
-use lib.Seq.{get_or-take, length-take-le}
+use lib.Seq.{length-take-le}
 use Rattle.numbers.specs.Lists.{range, Every}
 use Rattle.numbers.specs.Sums.{Σ}
 use Rattle.numbers.proofs.Lists.{◌∈◌, by_index, at_any, replicate_at, table_length, mem_every, every_map, every_flat_map, every_weaken}
 use Rattle.numbers.proofs.Rows.{rows_length}
 use Rattle.numbers.proofs.Sums.{Σ-bound}
 use Rattle.methodology.specs.declared.Refusal.{Refusal}
-use Rattle.methodology.specs.declared.Refusal.TheVariants.{Clear, Row, RowAt}
+use Rattle.std.specs.Prelude.{Option, Some, None, Result, Ok, Err}
+use Rattle.methodology.specs.Numbers.{row_number, row_index}
+use Rattle.methodology.specs.declared.Refusal.TheVariants.{BadOpening, OutOfTurn}
 use Rattle.methodology.specs.declared.Opening.{Opening}
 use Rattle.methodology.specs.Account.{no_opening, DayInput}
-use Rattle.methodology.specs.Day.{total, scale, dailies}
+use Rattle.methodology.specs.Day.{total, dailies}
 use Rattle.methodology.specs.Contribution.{funded, unfunded, three}
-use Rattle.methodology.specs.Refusals.{is_open, bad_opening, opening_refusal}
-use Rattle.methodology.specs.Register.{if_accepted, accepted, answer_by}
+use Rattle.methodology.specs.Refusals.{Verdict, clear, is_open, bad_opening, opening_refusal}
+use Rattle.methodology.specs.Register.{if_accepted, accepted, refused_with, answer_by}
 use Rattle.methodology.proofs.Passed.{passed, either}
-use Rattle.methodology.proofs.RowLimits.{at_most_9, RowFew, opening_few, day_few, closing_few}
-use Rattle.quotient.specs.Ranges.{greatest_total}
+use Rattle.methodology.proofs.RowLimits.{at_most_9, row_occurs, Few as IndexFew, RowFew, opening_few, day_few, closing_few}
+use Rattle.quotient.specs.Ranges.{greatest_total, Charge}
 use Rattle.validation.specs.Slices.{in_places}
 use Rattle.validation.proofs.OpeningPasses.{opening_leaves}
 use Rattle.period.specs.declared.Period.{Period}
-use Rattle.period.specs.declared.Outcome.{Outcome}
-use Rattle.period.specs.declared.Outcome.TheVariants as says
+use Rattle.period.specs.declared.Accepted.{Accepted}
+use Rattle.period.specs.declared.Accepted.TheVariants as says
 use Rattle.period.specs.declared.Reply.{Reply}
 use Rattle.period.specs.Reading.{answer_of}
 use Rattle.period.specs.Calls.{fresh_period, held_by, in_range, status_of, opening_row, opened_period, accounts_brought, day_row, share_at, reported_by, sized_period, closing_row, sums_held, charge_by, closed_period}
 use Rattle.fund.proofs.RawCharge.{charge_le}
 use Rattle.fund.proofs.Dailies.{Few, dailies_long}
-use Rattle.period.proofs.InRange.{ranged}
+use Rattle.period.proofs.InRange.{ranged, held_opened, charges, Ready, closable}
 use Rattle.period.proofs.Sizing.{Admits, passes_all, total_few, reported_few, written_few}
-use Rattle.period.proofs.Closings.{Closable, closable, in_range_lem}
 use Rattle.period.proofs.Reach.{sized_in_range}
 use Rattle.demand3.proofs.Covering.{three_wide}
 use Rattle.demand3.specs.Made.{Asked, Meets}
@@ -76,18 +77,17 @@ three_fits : (r : ℕ) → r ≤ 2 * greatest_total → Every Fits64 (three r)
 unfolding three funded unfunded
 three_fits r h = (omega arith, (omega arith, (omega arith, tt)))
 
-module _ {p : Period} {room : ℕ} (c : Closable p room) (full : length p.accrued.sums ≡ 32) where
+module _ {p : Period} {room : ℕ} (c : Ready p 3 room) (full : length p.accrued.sums ≡ 32) where
   few : p.held.n ≤ 32
-  few = (opening_leaves (held_by p) (in_range_lem c).opened).members_few
+  few = (held_opened c.in_range_lem).members_few
 
   sums_long : length (sums_held p) ≡ p.held.n
   sums_long = length-take-le p.held.n p.accrued.sums (omega (arith, few))
 
-  sum_few : (s : ℕ) → s ∈ sums_held p → s ≤ p.accrued.days * scale
-  sum_few = by_index (λ (s : ℕ). s ≤ p.accrued.days * scale) (sums_held p) 0 (λ i h. rw (get_or-take {A = ℕ} p.held.n p.accrued.sums i 0 (omega (arith, sums_long))) ((in_range_lem c).sums i))
-
   charge_few : {s : ℕ} → s ∈ sums_held p → charge_by p s ≤ 2 * greatest_total
-  charge_few {s} i = omega (arith, charge_le p.accrued.highest s p.accrued.days (sum_few s i), (in_range_lem c).bounded)
+  charge_few {s} i =
+      let few = by_index (λ s. Charge p.accrued.highest s p.accrued.days) (sums_held p) 0 (charges c.in_range_lem) s i in
+      omega (arith, charge_le p.accrued.highest s p.accrued.days few.shares, few.bounded)
 
   funds_fit : Fits64 (Σ (sums_held p) (λ s. funded (charge_by p s)))
   unfolding funded
@@ -96,7 +96,7 @@ module _ {p : Period} {room : ℕ} (c : Closable p room) (full : length p.accrue
 
   closing_figures_fit : Every Fits64 (p.accrued.days ∷ p.accrued.highest ∷ Σ (sums_held p) (λ s. funded (charge_by p s)) ∷ [])
   closing_figures_fit =
-      let r = in_range_lem c in
+      let r = c.in_range_lem in
       (omega (arith, r.counted, r.month), (omega (arith, r.bounded), (funds_fit, tt)))
 
   closing_fits : Every Fits64 (flat_map (λ s. three (charge_by p s)) (sums_held p))
@@ -152,23 +152,26 @@ narrow_fresh = record { held = narrow_places no_opening (omega arith) (omega ari
 
 -- ---- a call, by what the refusal table says
 
-answer_fits : (x : Refusal) (figures : List ℕ) → RowFew x → (x ≡ Clear → Every Fits64 figures) → Every Fits64 (numbers_in (answer_by x figures))
-answer_fits Clear figures h f = f refl
-answer_fits (Row number) figures h f = (omega (arith, at_most_9 number h), tt)
-answer_fits (RowAt number index) figures (h, i) f = (omega (arith, at_most_9 number h), (omega arith, tt))
+refused_fits : (number : ℕ) (index : Option ℕ) → number ≤ 9 → IndexFew index → Every Fits64 (numbers_in (refused_with number index))
+refused_fits number None h few = (omega arith, tt)
+refused_fits number (Some index) h few = (omega arith, (omega arith, tt))
+
+answer_fits : (x : Verdict) (figures : List ℕ) → RowFew x → (x ≡ clear → Every Fits64 figures) → Every Fits64 (numbers_in (answer_by x figures))
+answer_fits (Ok _) figures h f = f refl
+answer_fits (Err met) figures h f = refused_fits (row_number met) (row_index met) (at_most_9 _ (row_occurs met)) h
 
 pub fits : {p : Period} → Narrow p → (a : Asked) (r : Reply) (after : List ℕ) → Meets p a r after → Fits (record { asked = a; reply = r; after = after })
 unfolding opening_row opening_refusal
 fits {p} q (Asked.opening o) r after (m, none) =
     record {
       answer = rw m.answer (answer_fits (opening_row p o) [] (opening_row_few p o) (λ e. tt));
-      period = subst Narrow (sym m.period) (either Narrow (opening_row p o) _ p (λ e. narrow_opened o (passed 1 (bad_opening o) Clear (passed 2 (is_open (status_of p)) _ e).1).0) q);
+      period = subst Narrow (sym m.period) (either Narrow (opening_row p o) _ p (λ e. narrow_opened o (passed BadOpening (bad_opening o) clear (passed OutOfTurn (is_open (status_of p)) _ e).1).0) q);
       buffer = λ b. rw none tt;
       long = rw none refl;
     }
 fits {p} q (Asked.day d out) r after m =
     let x = day_row p d (length out) in
-    let pass : x ≡ Clear → Admits p d (length out) × (0 < total (held_by p) (accounts_brought p d)) = passes_all p d (length out) in
+    let pass : x ≡ clear → Admits p d (length out) × (0 < total (held_by p) (accounts_brought p d)) = passes_all p d (length out) in
     record {
       answer = rw m.answer (answer_fits x _ (day_row_few p d (length out)) (λ e. day_figures_fit p d (length out) (pass e)));
       period = subst Narrow (sym m.period) (either Narrow x _ p (λ e. narrow_sized p d (sized_in_range p d (pass e).0 (pass e).1) q) q);
@@ -179,7 +182,7 @@ fits {p} q (Asked.day d out) r after m =
     }
 fits {p} q (Asked.closing out) r after m =
     let x = closing_row p (length out) in
-    let pass : x ≡ Clear → Closable p (length out) = closable p (length out) in
+    let pass : x ≡ clear → Ready p 3 (length out) = closable p (length out) in
     record {
       answer = rw m.answer (answer_fits x _ (closing_row_few p (length out)) (λ e. closing_figures_fit (pass e) q.accrued.sums_long));
       period = subst Narrow (sym m.period) (either Narrow x _ p (λ e. narrow_closed p q) q);
@@ -190,16 +193,14 @@ fits {p} q (Asked.closing out) r after m =
 -- ---- calls with any arguments can be made
 
 -- an outcome with the answer that a contract names
-outcome_by : Refusal → (acceptance : Outcome) → Outcome
-outcome_by Clear o = o
-outcome_by (Row number) o = says.Refused number
-outcome_by (RowAt number index) o = says.RefusedAt number index
+outcome_by : Verdict → Accepted → Result Accepted Refusal
+outcome_by (Ok _) a = Ok a
+outcome_by (Err met) a = Err met
 
-answered : (x : Refusal) (o : Outcome) (figures : List ℕ) → answer_of o ≡ accepted figures → answer_of (outcome_by x o) ≡ answer_by x figures
+answered : (x : Verdict) (a : Accepted) (figures : List ℕ) → answer_of (Ok a) ≡ accepted figures → answer_of (outcome_by x a) ≡ answer_by x figures
 unfolding outcome_by
-answered Clear o figures e = e
-answered (Row number) o figures e = refl
-answered (RowAt number index) o figures e = refl
+answered (Ok _) a figures e = e
+answered (Err met) a figures e = refl
 
 -- the reply that a contract names, the buffer that it leaves, and that they meet it
 pub makes : (p : Period) (a : Asked) → (r : Reply) × (after : List ℕ) × Meets p a r after

@@ -3,8 +3,8 @@ use mathlib.Core.Path.{◌≡◌, sym, ap, subst, ◌∙◌}
 use Prim.Native.Nat.{ℕ}
 use lib.ListN.{replicate, length-replicate}
 use Rattle.numbers.specs.Lists.{Every}
-use Rattle.methodology.specs.declared.Refusal.TheVariants.{Clear}
 use Rattle.methodology.specs.Account.{DayInput}
+use Rattle.methodology.specs.Refusals.{clear}
 use Rattle.methodology.specs.Register.{Call, Register, start, refusal, step, returned, written, answer, buffer}
 use Rattle.methodology.proofs.Passed.{step_clear}
 use Rattle.fund.proofs.Dailies.{Few}
@@ -29,8 +29,8 @@ kept_first = record { period = _; follows = starts; narrow = narrow_fresh }
 -- after a call it is still one, and the numbers of an accepted call fit
 pub record CallFits (g : Register) (c : Call) : Type 0 where
   pub kept : Kept (step g c)
-  pub returned_fits : refusal g c ≡ Clear → Every Fits64 (returned (step g c) c)
-  pub written_fits : refusal g c ≡ Clear → Every Fits64 (written (step g c) c)
+  pub returned_fits : refusal g c ≡ clear → Every Fits64 (returned (step g c) c)
+  pub written_fits : refusal g c ≡ clear → Every Fits64 (written (step g c) c)
 
 as_asked : {g : Register} → Kept g → (a : Asked) → Every Fits64 (lent a) → CallFits g (call_of a)
 unfolding answer buffer
@@ -40,8 +40,8 @@ as_asked k a free =
     let (follows, agreed) = agrees k.follows a r after m in
     record {
       kept = record { period = r.period; follows = follows; narrow = f.period };
-      returned_fits = λ clear. rw (agreed.answer, clear) at f.answer;
-      written_fits = λ clear. rw (agreed.buffer, clear) at (f.buffer free);
+      returned_fits = λ passes. rw (agreed.answer, passes) at f.answer;
+      written_fits = λ passes. rw (agreed.buffer, passes) at (f.buffer free);
     }
 
 -- a day and a closing are lent zeros to write over
@@ -53,9 +53,9 @@ call_fits {g} k (Call.closing room) =
     subst (λ (r : ℕ). CallFits g (Call.closing r)) (length-replicate room 0) (as_asked k (Asked.closing (replicate room 0)) (zeros_fit room))
 
 -- a day's numbers are so small that sums of them fit too
-pub writes_few : {g : Register} → Kept g → (d : DayInput) (room : ℕ) → refusal g (Call.day d room) ≡ Clear
+pub writes_few : {g : Register} → Kept g → (d : DayInput) (room : ℕ) → refusal g (Call.day d room) ≡ clear
     → Every Few (written (step g (Call.day d room)) (Call.day d room))
-writes_few {g} k d room clear =
+writes_few {g} k d room passes =
     let call = Call.day d room in
-    let (s, positive) = passes_all k.period d room (day_row_lem k.follows d room ∙ clear) in
-    subst (Every Few) (day_writes k.follows d room ∙ ap (λ (g : Register). written g call) (sym (step_clear g call clear))) (written_few s positive)
+    let (s, positive) = passes_all k.period d room (day_row_lem k.follows d room ∙ passes) in
+    subst (Every Few) (day_writes k.follows d room ∙ ap (λ (g : Register). written g call) (sym (step_clear g call passes))) (written_few s positive)

@@ -1,12 +1,13 @@
 -- Demand 3, in its own order: "The fund covers 110% of the worst loss and hardly more." proofs/Demand3.antt says it of the program.
 use Rattle.std.specs.Prelude.{◌≡◌, List, [], ◌∷◌, map, ℕ, ◌+◌, ◌-◌, ◌*◌, ◌^◌, ◌≤◌, ◌<◌, length, get_or}
+use Rattle.std.specs.List.{fold}
 use Rattle.numbers.specs.Lists.{Every}
 use Rattle.numbers.specs.Sums.{Σ}
 use Rattle.numbers.specs.Fractions.{Fraction, ◌over◌, whole, Proper, ◌⊕◌, ◌⊗◌, ◌≼◌, ◌≺◌}
 use Rattle.methodology.specs.declared.Opening.{Opening}
-use Rattle.methodology.specs.declared.Refusal.TheVariants.{Clear}
 use Rattle.methodology.specs.Account.{members}
 use Rattle.methodology.specs.Contribution.{highest, exact_charge, allowance, shortfall}
+use Rattle.methodology.specs.Refusals.{clear}
 use Rattle.methodology.specs.Register.{Register, refusal, step, Answer, accepted, refused, refused_at, answer, buffer}
 use Rattle.period.specs.declared.Accrued.{Accrued}
 use Rattle.period.specs.declared.Period.{Period}
@@ -63,7 +64,7 @@ pub record Covers (g : Register) (said : Answer) (out : List ℕ) : Type 0 where
 -- what demand 3 adds "where the last call is an accepted closing of n members"
 abbrev pub AtClosing : Register → Made → Type 0
 AtClosing g c =
-    (out : List ℕ) → c.asked ≡ Asked.closing out → refusal g (call_of c.asked) ≡ Clear
+    (out : List ℕ) → c.asked ≡ Asked.closing out → refusal g (call_of c.asked) ≡ clear
     → Covers (step g (call_of c.asked)) (answer_of c.reply.outcome) c.after
 
 -- ---- the list
@@ -75,8 +76,7 @@ Holds g (c ∷ cs) = Agrees g c × AtClosing g c × Holds (step g (call_of c.ask
 
 -- the register after a list of calls
 abbrev pub register_after : Register → List Made → Register
-register_after g [] = g
-register_after g (c ∷ cs) = register_after (step g (call_of c.asked)) cs
+register_after = fold (λ g c. step g (call_of c.asked))
 
 -- What a caller keeps from the answers alone: `note` takes in what an accepted call returned, and a refused call changes nothing.
 abbrev pub by_answer : {X : Type 0} → (note : Asked → (figures : List ℕ) → X → X) → Asked → Answer → X → X
@@ -85,8 +85,7 @@ by_answer note asked (refused number) x = x
 by_answer note asked (refused_at number index) x = x
 
 abbrev pub from_answers : {X : Type 0} → (note : Asked → (figures : List ℕ) → X → X) → X → List Made → X
-from_answers note x [] = x
-from_answers note x (c ∷ cs) = from_answers note (by_answer note c.asked (answer_of c.reply.outcome) x) cs
+from_answers note = fold (λ x c. by_answer note c.asked (answer_of c.reply.outcome) x)
 
 -- ---- that it is not about nothing
 

@@ -10,7 +10,8 @@ use lib.IntN.{ℤ, pos, nat_abs, ◌+ℤ◌, ◌-ℤ◌}
 use lib.ListN.{length, get_or}
 use borrow.Author.Tests.{ltb-false}
 use Rattle.numbers.specs.Signed.{◌⁺}
-use Rattle.numbers.specs.Lists.{range, keep, descending}
+use Rattle.std.specs.List.{filter}
+use Rattle.numbers.specs.Lists.{range, descending}
 use Rattle.numbers.specs.Sums.{Σ}
 use Rattle.numbers.proofs.Tests.{neither}
 use Rattle.numbers.proofs.Signed.{abs_is, abs_add, add, sub, one_zero, ⁺-abs, ⁺-sub}
@@ -29,20 +30,20 @@ use Rattle.validation.proofs.Amounts.{npv_limit}
 -- a member's EUL: the house counts whole, R at most whole, A and U one and a half times
 module _ (f : Account → ℤ) (accts : List Account) where
   abbrev size : (Account → Bool) → ℕ
-  size t = Σ (keep t accts) (λ a. nat_abs (f a))
+  size t = Σ (filter t accts) (λ a. nat_abs (f a))
 
-  positive_le : (t : Account → Bool) → Σ (keep t accts) (λ a. f a ⁺) ≤ size t
-  positive_le t = Σ-mono (keep t accts) _ _ (λ a m. ⁺-abs (f a))
+  positive_le : (t : Account → Bool) → Σ (filter t accts) (λ a. f a ⁺) ≤ size t
+  positive_le t = Σ-mono (filter t accts) _ _ (λ a m. ⁺-abs (f a))
 
   half_le : 2 * half_of_clients f accts ≤ size is_client + 1
   unfolding half_of_clients
-  half_le = omega (arith, positive_le is_client, ceil_below (Σ (keep is_client accts) (λ a. f a ⁺)) 2 (omega arith))
+  half_le = omega (arith, positive_le is_client, ceil_below (Σ (filter is_client accts) (λ a. f a ⁺)) 2 (omega arith))
 
   two_le : two_largest_of_r f accts ≤ size is_r
   unfolding two_largest_of_r
   two_le =
-      let l = map (λ a. f a ⁺) (keep is_r accts) in
-      omega (arith, positive_le is_r, Σ-take_le 2 (descending l) (λ x. x), Σ-perm (descending_is l) (λ x. x), Σ-map (λ a. f a ⁺) (keep is_r accts) (λ x. x))
+      let l = map (λ a. f a ⁺) (filter is_r accts) in
+      omega (arith, positive_le is_r, Σ-take_le 2 (descending l) (λ x. x), Σ-perm (descending_is l) (λ x. x), Σ-map (λ a. f a ⁺) (filter is_r accts) (λ x. x))
 
   member_abs : 2 * nat_abs (member_eul f accts) ≤ 3 * Σ accts (λ a. nat_abs (f a)) + 1
   unfolding member_eul house_eul part_b part_c range Σ
@@ -52,7 +53,7 @@ module _ (f : Account → ℤ) (accts : List Account) where
         arith,
         abs_add (house_eul f accts +ℤ pos (part_b f accts)) (pos (part_c f accts)),
         abs_add (house_eul f accts) (pos (part_b f accts)),
-        Σℤ-abs (keep is_house accts) f,
+        Σℤ-abs (filter is_house accts) f,
         half_le,
         two_le,
         positive_le is_aor_u,

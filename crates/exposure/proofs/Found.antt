@@ -3,7 +3,6 @@ use mathlib.Core.Path.{◌≡◌, sym, ap, ◌∙◌}
 use mathlib.Core.List.{List}
 use Prim.Native.Nat.{ℕ, ◌+◌, ◌≤◌, ◌<◌}
 use native.Mathlib.Omega.{arith}
-use lib.IntN.{ℤ}
 use lib.ListN.{get_or}
 use lib.Seq.{get_or-take}
 use Rattle.numbers.proofs.Lists.{range_mem, table_at}
@@ -11,21 +10,19 @@ use Rattle.methodology.specs.declared.Opening.{Opening}
 use Rattle.methodology.specs.Account.{Account}
 use Rattle.methodology.specs.Member.{loss}
 use Rattle.methodology.specs.Day.{total}
-use Rattle.validation.specs.Slices.{Lent}
 use Rattle.exposure.specs.declared.day.Losses.{Losses}
-use Rattle.exposure.specs.MemberCut.{Owners}
 use Rattle.exposure.specs.DayFigures.{LossesAre}
 use Rattle.exposure.proofs.MaxTotal.{loss_le_total}
 
-module _ (o : Opening) (accts : List Account) {holders kinds : List ℕ} {npvs : List ℤ} {margins extras : List ℕ} (lent : Lent o.k kinds npvs margins extras accts) (own : Owners holders accts) (r : Losses) (found : LossesAre o.n o.k holders kinds npvs margins extras r) where
+module _ (o : Opening) (accts : List Account) (r : Losses) (found : LossesAre o.n o.k accts r) where
   pub total_is : r.total ≡ total o accts
   unfolding total
-  total_is = found.total accts lent own
+  total_is = found.total
 
   pub loss_at : (i : ℕ) → i < o.n → get_or r.each i 0 ≡ loss o.k accts (1 + i)
   loss_at i l =
       sym (get_or-take o.n r.each i 0 l)
-      ∙ ap (λ (x : List ℕ). get_or x i 0) (found.each accts lent own)
+      ∙ ap (λ (x : List ℕ). get_or x i 0) found.each
       ∙ table_at (loss o.k accts) 1 o.n i 0 l
 
   pub loss_part : (i : ℕ) → i < o.n → get_or r.each i 0 ≤ r.total

@@ -11,7 +11,8 @@ use lib.Dec.{eqb}
 use lib.IntN.{ℤ, pos, ◌+ℤ◌, +ℤ_idr}
 use borrow.Author.Tests.{eqb-true, eqb-false, eq-eqb, ne_eqb}
 use Rattle.numbers.specs.Signed.{◌⁺}
-use Rattle.numbers.specs.Lists.{range, keep}
+use Rattle.std.specs.List.{filter}
+use Rattle.numbers.specs.Lists.{range}
 use Rattle.numbers.specs.Sums.{Σℤ, greatest}
 use Rattle.numbers.proofs.Lists.{◌∈◌, upto_more, range_mem, mem_range, keep_snoc, keep_snoc_skip, mem_keep}
 use Rattle.numbers.proofs.Sums.{Σℤ-snoc, greatest_le, greatest_elem}
@@ -22,7 +23,7 @@ use Rattle.methodology.specs.Day.{group_number, group_of, group_sum, own_max_eul
 
 -- group g's row at scenario j when the first i members have been added: the sum of their EULs under j, of those in group g
 unfoldable pub row_upto : Opening → List Account → (i g j : ℕ) → ℤ
-row_upto o accts i g j = Σℤ (keep (λ m. eqb (group_number o m) g) (members i)) (λ m. member_under accts m j)
+row_upto o accts i g j = Σℤ (filter (λ m. eqb (group_number o m) g) (members i)) (λ m. member_under accts m j)
 
 -- and when all members have been
 abbrev group_row : Opening → List Account → (g j : ℕ) → ℤ
@@ -31,7 +32,7 @@ group_row o accts g j = row_upto o accts o.n g j
 -- a row before the first member, and with member i + 1 added where it is in the group, or left out
 module _ (o : Opening) (accts : List Account) (g j : ℕ) where
   pub row_none : row_upto o accts 0 g j ≡ pos 0
-  unfolding row_upto range keep Σℤ
+  unfolding row_upto range Σℤ
   row_none = refl
 
   pub row_in : (i : ℕ) → group_number o (i + 1) ≡ g → row_upto o accts (i + 1) g j ≡ row_upto o accts i g j +ℤ member_under accts (i + 1) j
@@ -77,9 +78,9 @@ module _ (o : Opening) (accts : List Account) where
 
   row_le : (g : ℕ) → 0 < g → of_row g ≤ greatest (members o.n) of_group
   unfolding row_upto Σℤ
-  row_le g h = by (keep (λ m. eqb (group_number o m) g) (members o.n)) refl
+  row_le g h = by (filter (λ m. eqb (group_number o m) g) (members o.n)) refl
     where
-      by : (l : List ℕ) → keep (λ m. eqb (group_number o m) g) (members o.n) ≡ l → of_row g ≤ greatest (members o.n) of_group
+      by : (l : List ℕ) → filter (λ m. eqb (group_number o m) g) (members o.n) ≡ l → of_row g ≤ greatest (members o.n) of_group
       by [] e = greatest_le (scenarios o.k) _ _ (λ j i. rw e (omega arith))
       by (m ∷ l) e =
           let (i, q) = mem_keep (λ m'. eqb (group_number o m') g) {x = m} (members o.n) (rw e (here refl)) in

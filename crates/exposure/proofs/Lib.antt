@@ -1,15 +1,16 @@
 mod Decreases
 mod Tallies
-mod MemberPass
+pub mod Bounds
 pub mod Members
+mod Parts
+mod MemberPass
 mod Tables
 mod RowPass
+mod Left
+mod LossPass
 mod Groups
-pub mod Bounds
+mod MaxPass
 mod Monotone
 pub mod MaxTotal
-mod Between
-mod LossPass
-mod MaxPass
-pub mod Admitted
 pub mod Found
+pub mod Admitted

@@ -16,14 +16,14 @@ use Rattle.numbers.proofs.Lists.{at_set, replicate_at, upto_more, mem_range, is_
 use Rattle.numbers.proofs.Sums.{greatest_snoc, greatest_map, greatest_eq}
 use Rattle.methodology.specs.declared.Opening.{Opening}
 use Rattle.methodology.specs.Account.{Account, scenarios}
-use Rattle.methodology.specs.Member.{member_under}
-use Rattle.methodology.specs.Day.{group_number}
-use Rattle.methodology.specs.Refusals.{limit}
-use Rattle.validation.specs.Slices.{listed, Lent}
-use Rattle.exposure.specs.MemberCut.{Owners, Cut, between}
+use Rattle.methodology.specs.Member.{accounts_of, member_under}
+use Rattle.methodology.specs.Day.{group_number, own_max_eul}
+use Rattle.validation.specs.Slices.{listed}
+use Rattle.exposure.specs.declared.accounts.Accounts.{Accounts}
 use Rattle.exposure.specs.GroupRows.{row_of, plus, Near, Shape, with_row}
-use Rattle.exposure.specs.DayFigures.{Sizable, RowIs, Grouped, MaxIs}
-use Rattle.exposure.proofs.Members.{cut_start, cut_inside, own_part, under_of}
+use Rattle.exposure.specs.AccountsIn.{accounts_in, most_eul, RowIs}
+use Rattle.exposure.specs.DayFigures.{Grouped}
+use Rattle.exposure.proofs.Left.{Left}
 use Rattle.exposure.proofs.Groups.{row_upto, row_none, row_in, row_out, max_by_rows}
 use Rattle.exposure.proofs.Tables.{plus_row, plus_long, plus_bound, row_greatest}
 
@@ -121,67 +121,56 @@ module _ (o : Opening) (accts : List Account) where
       greatest_map _ (range 1 32) (λ row. greatest row (λ z. z ⁺))
       ∙ greatest_eq (range 1 32) _ _ (λ g m. row_greatest o.k (row_upto o accts i g) h)
 
-pub record MaxPass (o : Opening) (holders kinds : List ℕ) (npvs : List ℤ) (margins extras : List ℕ) (rows : List (List ℤ)) (top at i : ℕ) : Type 0 where
-  pub high : i ≤ o.n
-  pub cut : Cut holders (i + 1) at
-  pub bounded : Rows (3 * limit * at) rows
-  pub rows_are : (accts : List Account) → Lent o.k kinds npvs margins extras accts → Owners holders accts → rows ≡ rows_at (listed o) accts i
-  pub top_is :
-      (accts : List Account) → Lent o.k kinds npvs margins extras accts → Owners holders accts
-      → top ≡ greatest (range 1 i) (λ m. greatest (scenarios o.k) (λ j. member_under accts m j ⁺))
+pub record MaxPass (o : Opening) (all : List Account) (rows : List (List ℤ)) (top i : ℕ) (a : Accounts) : Type 0 where
+  pub place : Left o.k all i a
+  pub bounded : Rows (most_eul * i) rows
+  pub rows_are : rows ≡ rows_at (listed o) all i
+  pub top_is : top ≡ greatest (range 1 i) (λ m. greatest (scenarios o.k) (λ j. member_under all m j ⁺))
 
-module _ {o : Opening} {holders kinds : List ℕ} {npvs : List ℤ} {margins extras : List ℕ} (s : Sizable o.n o.k holders kinds npvs margins extras) where
-  pub max_none : MaxPass o holders kinds npvs margins extras (replicate 32 (replicate 16 (pos 0))) 0 0 0
+module _ (o : Opening) (all : List Account) where
+  pub max_none : {a : Accounts} → Left o.k all 0 a → MaxPass o all (replicate 32 (replicate 16 (pos 0))) 0 0 a
   unfolding range greatest
-  max_none =
-      record {
-        high = omega arith;
-        cut = cut_start s.rising;
-        bounded = none_rows;
-        rows_are = λ accts l h. rows_none (listed o) accts;
-        top_is = λ accts l h. refl;
-      }
+  max_none p = record { place = p; bounded = none_rows; rows_are = rows_none (listed o) all; top_is = refl }
 
-  module _ {rows : List (List ℤ)} {top at i : ℕ} (p : MaxPass o holders kinds npvs margins extras rows top at i) where
-    pub rows_shape : Shape rows
-    rows_shape = shape (omega (arith, cut_inside s p.cut, s.within.few)) p.bounded
+  module _ {rows : List (List ℤ)} {top i : ℕ} {a : Accounts} (p : MaxPass o all rows top i a) where
+    pub rows_shape : i ≤ 32 → Shape rows
+    rows_shape h = shape (omega arith) p.bounded
 
-    module _ (end : ℕ) (row : List ℤ) (le : at ≤ end) (c : Cut holders (i + 1 + 1) end) (r : RowIs o.k kinds npvs margins extras at end row) where
+    module _ (own next : Accounts) (row : List ℤ) (q : (own.k ≡ o.k) × (accounts_in own ≡ accounts_of (i + 1) all))
+        (r : RowIs own.k (accounts_in own) row) where
+      row_is : row ≡ row_next (listed o) all i
+      unfolding member_under
+      row_is = rw (r.is, q.1, q.0)
+
+      pub row_long : length row ≡ 16
+      unfolding row_of
+      row_long = rw row_is (table_length _ 0 16)
+
       pub row_near : Near row
-      row_near = record { at = λ x. omega (arith, r.bound x, cut_inside s c, s.within.few) }
+      row_near = record { at = λ x. omega (arith, r.bound x) }
 
-      row_next_lem : (accts : List Account) → Lent o.k kinds npvs margins extras accts → Owners holders accts → row ≡ row_next (listed o) accts i
-      row_next_lem accts l h =
-          r.is accts l
-          ∙ ap (row_of o.k) (fun_ext (λ j. sym (under_of (i + 1) j accts (between at end accts) (own_part h p.cut c))))
-
-      pub max_more : i < o.n → get_or o.groups i 0 ≤ 32 → (most next : ℕ) → most ≡ greatest row (λ z. z ⁺) → next ≡ max top most
-          → MaxPass o holders kinds npvs margins extras (with_row rows (get_or o.groups i 0) row) next end (i + 1)
-      max_more h g most next e f =
-          let sum : 3 * limit * at + 3 * limit * (end - at) ≡ 3 * limit * end = omega arith in
+      pub max_more : i < o.n → o.k ≤ 16 → get_or o.groups i 0 ≤ 32 → Left o.k all (i + 1) next
+          → (most top' : ℕ) → most ≡ greatest row (λ z. z ⁺) → top' ≡ max top most
+          → MaxPass o all (with_row rows (get_or o.groups i 0) row) top' (i + 1) next
+      max_more h few g place most top' e f =
+          let sum : most_eul * i + most_eul ≡ most_eul * (i + 1) = omega arith in
           record {
-            high = omega arith;
-            cut = c;
-            bounded = rw sum at (with_rows row (3 * limit * (end - at)) p.bounded r.long r.bound (get_or o.groups i 0) g);
-            rows_are = λ accts l own. rw (p.rows_are accts l own, row_next_lem accts l own) (rows_by (listed o) accts i (get_or o.groups i 0) (get_or-take o.n o.groups i 0 h) g);
+            place = place;
+            bounded = rw sum at (with_rows row most_eul p.bounded row_long r.bound (get_or o.groups i 0) g);
+            rows_are = rw (p.rows_are, row_is) (rows_by (listed o) all i (get_or o.groups i 0) (get_or-take o.n o.groups i 0 h) g);
             top_is =
-                λ accts l h.
                 rw (upto_more i, greatest_snoc)
-                (f ∙ ap₂ max (p.top_is accts l h) (e ∙ ap (λ (x : List ℤ). greatest x (λ z. z ⁺)) (row_next_lem accts l h) ∙ row_greatest o.k (member_under accts (i + 1)) s.scenarios_few));
+                (f ∙ ap₂ max p.top_is (e ∙ ap (λ (x : List ℤ). greatest x (λ z. z ⁺)) row_is ∙ row_greatest o.k (member_under all (i + 1)) few));
           }
 
-    pub max_all : o.n ≤ i → Grouped o → (most r : ℕ) → most ≡ greatest rows (λ row. greatest row (λ z. z ⁺)) → r ≡ max top most
-        → MaxIs o holders kinds npvs margins extras r
-    max_all h g most r e f =
-        let n : i ≡ o.n = omega (arith, p.high) in
-        record {
-          is =
-              λ accts l h.
-              f
-              ∙ ap₂ max
-              (p.top_is accts l h ∙ ap (λ (x : ℕ). greatest (range 1 x) (λ m. greatest (scenarios o.k) (λ j. member_under accts m j ⁺))) n)
-              (e ∙ ap (λ (x : List (List ℤ)). greatest x (λ row. greatest row (λ z. z ⁺))) (p.rows_are accts l h)
-              ∙ rows_greatest (listed o) accts s.scenarios_few i
-              ∙ ap (λ (x : ℕ). greatest (range 1 32) (λ m. greatest (scenarios o.k) (λ j. row_upto (listed o) accts x m j ⁺))) n)
-              ∙ sym (max_by_rows (listed o) accts 32 (λ m q. let z = mem_range 1 o.n q in rw (get_or-take o.n o.groups (m - 1) 0 (omega arith)) (g.few (m - 1) (omega arith))));
-        }
+    pub max_all : i ≤ o.n → o.n ≤ i → o.k ≤ 16 → Grouped o → (most r : ℕ) → most ≡ greatest rows (λ row. greatest row (λ z. z ⁺)) → r ≡ max top most
+        → r ≡ own_max_eul (listed o) all
+    max_all h h' few g most r e f =
+        let n : i ≡ o.n = omega arith in
+        f
+        ∙ ap₂ max
+        (p.top_is ∙ ap (λ (x : ℕ). greatest (range 1 x) (λ m. greatest (scenarios o.k) (λ j. member_under all m j ⁺))) n)
+        (e ∙ ap (λ (x : List (List ℤ)). greatest x (λ row. greatest row (λ z. z ⁺))) p.rows_are
+        ∙ rows_greatest (listed o) all few i
+        ∙ ap (λ (x : ℕ). greatest (range 1 32) (λ m. greatest (scenarios o.k) (λ j. row_upto (listed o) all x m j ⁺))) n)
+        ∙ sym (max_by_rows (listed o) all 32 (λ m q. let z = mem_range 1 o.n q in rw (get_or-take o.n o.groups (m - 1) 0 (omega arith)) (g.few (m - 1) (omega arith))))

@@ -5,7 +5,7 @@ use Prim.Native.Nat.{ℕ, ◌≤◌}
 use native.Mathlib.Omega.{arith}
 use lib.Dec.{eqb}
 use Rattle.numbers.specs.Signed.{◌⁺}
-use Rattle.numbers.specs.Lists.{keep}
+use Rattle.std.specs.List.{filter}
 use Rattle.numbers.specs.Sums.{Σ}
 use Rattle.numbers.proofs.Lists.{◌∈◌}
 use Rattle.numbers.proofs.Sums.{Σ-elem, Σ-mono, Σ-keep_le, Σℤ-⁺, greatest_le}
@@ -20,7 +20,7 @@ group_part : (o : Opening) (f : ℕ → ℕ) {m : ℕ} → m ∈ members o.n →
 unfolding group_of Σ
 group_part o f {m} i = by (eqb (group_number o m) 0)
   where
-    by : (t : Bool) → Σ (cond t (m ∷ []) (keep (λ m'. eqb (group_number o m') (group_number o m)) (members o.n))) f ≤ Σ (members o.n) f
+    by : (t : Bool) → Σ (cond t (m ∷ []) (filter (λ m'. eqb (group_number o m') (group_number o m)) (members o.n))) f ≤ Σ (members o.n) f
     by true = omega (arith, Σ-elem f i)
     by false = Σ-keep_le _ (members o.n) f
 

@@ -6,7 +6,7 @@ use native.Mathlib.Omega.{arith}
 use lib.IntN.{ℤ, pos, ◌+ℤ◌, ◌-ℤ◌}
 use lib.Signed.{◌≤ℤ◌}
 use Rattle.numbers.specs.Signed.{◌⁺}
-use Rattle.numbers.specs.Lists.{keep}
+use Rattle.std.specs.List.{filter}
 use Rattle.numbers.proofs.Signed.{signed, add, sub, ⁺-mono}
 use Rattle.numbers.proofs.Lists.{◌∈◌, mem_keep}
 use Rattle.numbers.proofs.Sums.{Σ-mono, Σℤ-mono, greatest_elem}
@@ -19,11 +19,11 @@ use Rattle.methodology.specs.Member.{accounts_of, is_house, is_r, is_aor_u, is_c
 member_mono : (accts : List Account) (f g : Account → ℤ) → ((a : Account) → a ∈ accts → f a ≤ℤ g a) → member_eul f accts ≤ℤ member_eul g accts
 unfolding member_eul house_eul part_b half_of_clients two_largest_of_r part_c
 member_mono accts f g h =
-    let positive : (t : Account → Bool) (a : Account) → a ∈ keep t accts → f a ⁺ ≤ g a ⁺ = λ t a m. ⁺-mono (h a (mem_keep t accts m).0) in
-    let house = Σℤ-mono (keep is_house accts) f g (λ a m. h a (mem_keep is_house accts m).0) in
-    let half = ceil_mono _ _ 2 (omega arith) (Σ-mono (keep is_client accts) _ _ (positive is_client)) in
-    let two = two_mono (keep is_r accts) _ _ (positive is_r) in
-    let c = Σ-mono (keep is_aor_u accts) _ _ (positive is_aor_u) in
+    let positive : (t : Account → Bool) (a : Account) → a ∈ filter t accts → f a ⁺ ≤ g a ⁺ = λ t a m. ⁺-mono (h a (mem_keep t accts m).0) in
+    let house = Σℤ-mono (filter is_house accts) f g (λ a m. h a (mem_keep is_house accts m).0) in
+    let half = ceil_mono _ _ 2 (omega arith) (Σ-mono (filter is_client accts) _ _ (positive is_client)) in
+    let two = two_mono (filter is_r accts) _ _ (positive is_r) in
+    let c = Σ-mono (filter is_aor_u accts) _ _ (positive is_aor_u) in
     omega (
       arith,
       signed,

@@ -1,7 +1,7 @@
 pub mod AccountRanges
 pub mod Scenario
 pub mod Tally
-pub mod MemberEul
 pub mod GroupRows
 pub mod MemberCut
+pub mod AccountsIn
 pub mod DayFigures

@@ -1,11 +1,20 @@
--- An account's figures under scenario j, 1 to k, and its own, under one name: the program has one path for both, with j = 0 for own.
-use Rattle.std.specs.Prelude.{cond, List, ℕ, ◌-◌, eqb, ℤ, length}
+-- An account's figures under a scenario, and its own, under one name: the program has one path for both.
+use Rattle.std.specs.Prelude.{List, ℕ, ◌-◌, ℤ, length}
 use Rattle.methodology.specs.Account.{Account, decrease, largest_decrease, eul_under, own_eul}
+use Rattle.exposure.specs.declared.account.Scenario.{Scenario}
+use Rattle.exposure.specs.declared.account.Scenario.TheVariants.{Own, Under}
 
--- the decrease of a row under scenario j, or its largest one where j is 0
-unfoldable pub fall_under : (j : ℕ) → (row : List ℤ) → ℕ
-fall_under j row = cond (eqb j 0) (largest_decrease (length row - 1) row) (decrease row j)
+-- the number of the stress that is read of a row; a largest decrease asks for none
+abbrev pub stress_read : Scenario → ℕ
+stress_read Own = 0
+stress_read (Under j) = j
 
--- an account's EUL under scenario j, or its own where j is 0
-unfoldable pub eul_by : (k j : ℕ) → Account → ℤ
-eul_by k j a = cond (eqb j 0) (own_eul k a) (eul_under j a)
+-- a row's largest decrease, or the one under scenario j
+abbrev pub fall_under : Scenario → (row : List ℤ) → ℕ
+fall_under Own row = largest_decrease (length row - 1) row
+fall_under (Under j) row = decrease row j
+
+-- an account's own EUL, or the one under scenario j
+abbrev pub eul_by : (k : ℕ) → Scenario → Account → ℤ
+eul_by k Own = own_eul k
+eul_by k (Under j) = eul_under j

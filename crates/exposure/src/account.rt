@@ -4,11 +4,16 @@ ghost use Rattle.numbers.specs.Signed.{◌⁺};
 ghost use Rattle.methodology.specs.Account.{largest_decrease, eul_of};
 ghost use Rattle.methodology.specs.Refusals.{limit};
 ghost use Rattle.exposure.specs.AccountRanges.{Npvs, Owed};
-ghost use Rattle.exposure.specs.Scenario.{fall_under};
+ghost use Rattle.exposure.specs.Scenario.{stress_read, fall_under};
 
-use numbers::greater;
+// A number, or 0 where it is negative.
+pub fn gain(x: i64) -> u64
+    ensures { result ≡ x ⁺ }
+{
+    x.max(0) as u64
+}
 
-// Base minus stress, or 0 where that is negative.
+// Base minus stress, or 0 where that is negative. `gain` of the difference is slower: it tests what the subtraction has tested.
 fn decrease(base: i64, stress: i64) -> u64
     requires { (nat_abs base ≤ limit) × (nat_abs stress ≤ limit) }
     ensures { result ≡ (base -ℤ stress) ⁺ }
@@ -26,24 +31,32 @@ fn largest_decrease(row: &[i64]) -> u64
     ensures { result ≡ largest_decrease (length row.now - 1) row.now }
 {
     let base = row[0];
+    let stresses = &row[1..];
     let mut most: u64 = 0;
-    let mut j: usize = 1;
-    while j < row.len() {
-        most = greater(most, decrease(base, row[j]));
-        j += 1;
+    for &stress in stresses {
+        most = most.max(decrease(base, stress));
     }
     most
 }
 
-// The decrease under scenario j, or the largest one where j is 0: no scenario has that number.
-pub fn fall(row: &[i64], j: usize) -> u64
-    requires { (j < length row.now) × Npvs row.now }
-    ensures { result ≡ fall_under j row.now }
-{
-    if j == 0 {
-        return largest_decrease(row);
+// What an EUL takes of each account: its largest decrease, for the own EUL, or the one under a scenario, 1 to k.
+#[derive(Clone, Copy)]
+pub enum Scenario {
+    Own,
+    Under(usize),
+}
+
+impl Scenario {
+    // The decrease that it takes from an account's row of NPVs.
+    pub fn fall(self, row: &[i64]) -> u64
+        requires { (stress_read self < length row.now) × Npvs row.now }
+        ensures { result ≡ fall_under self row.now }
+    {
+        match self {
+            Scenario::Own => largest_decrease(row),
+            Scenario::Under(j) => decrease(row[0], row[j]),
+        }
     }
-    decrease(row[0], row[j])
 }
 
 // The decrease less margin, plus extra. It may be negative.

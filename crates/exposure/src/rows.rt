@@ -4,8 +4,7 @@ ghost use Rattle.numbers.specs.Signed.{◌⁺};
 ghost use Rattle.numbers.specs.Sums.{greatest};
 ghost use Rattle.exposure.specs.GroupRows.{Near, Shape, Summable, plus, with_row};
 
-use crate::member::gain;
-use numbers::greater;
+use crate::account::gain;
 
 // The sum of two rows, scenario by scenario.
 fn added(a: [i64; 16], b: [i64; 16]) -> [i64; 16]
@@ -13,15 +12,13 @@ fn added(a: [i64; 16], b: [i64; 16]) -> [i64; 16]
     ensures { result ≡ plus a b }
 {
     let mut sums = a;
-    let mut j: usize = 0;
-    while j < 16 {
-        sums[j] = sums[j] + b[j];
-        j += 1;
+    for j in 0..16 {
+        sums[j] += b[j];
     }
     sums
 }
 
-// A member's row added to that of its group; group 0 is none.
+// A member's row added to that of its group. Document 01 has the number 0 for none.
 pub fn add_row(rows: &mut [[i64; 16]; 32], group: u64, row: [i64; 16])
     requires { Shape rows.old × (group ≤ 32) × (length row ≡ 16) × Near row }
     ensures { rows.new ≡ with_row rows.old group row }
@@ -31,8 +28,7 @@ pub fn add_row(rows: &mut [[i64; 16]; 32], group: u64, row: [i64; 16])
     }
     let g = (group - 1) as usize;
     let old = rows[g];
-    let sums = added(old, row);
-    rows[g] = sums;
+    rows[g] = added(old, row);
 }
 
 // The greatest of 0 and a row's numbers.
@@ -41,25 +37,20 @@ pub fn row_greatest(row: [i64; 16]) -> u64
     ensures { result ≡ greatest row (λ z. z ⁺) }
 {
     let mut most: u64 = 0;
-    let mut j: usize = 0;
-    while j < 16 {
-        most = greater(most, gain(row[j]));
-        j += 1;
+    for x in row {
+        most = most.max(gain(x));
     }
     most
 }
 
-// The greatest of 0 and the numbers of all rows.
+// The greatest of 0 and the numbers of all rows. Two loops of one form: a closure in common would need a contract of its own.
 pub fn rows_greatest(rows: [[i64; 16]; 32]) -> u64
     requires { Shape rows }
     ensures { result ≡ greatest rows (λ row. greatest row (λ z. z ⁺)) }
 {
     let mut most: u64 = 0;
-    let mut g: usize = 0;
-    while g < 32 {
-        let row = rows[g];
-        most = greater(most, row_greatest(row));
-        g += 1;
+    for row in rows {
+        most = most.max(row_greatest(row));
     }
     most
 }

@@ -1,9 +1,10 @@
 -- A line's fields, read one after another from the text where they stand: neither the line nor a field is cut out first.
-use Rattle.std.specs.Prelude.{◌≡◌, ℕ, zero, suc, ◌+◌, ◌-◌, ◌^◌, ◌<◌, ◌≤◌, Bool, true, false, cond, not, ◌||◌, ◌⊎◌, List, [], length, take, drop, ℤ, pos, ◌==◌, nat_lt, slice_index, slice_set}
-use Rattle.std.proofs.Math.Option.{Option, none, some}
-use Rattle.numbers.specs.Lists.{any, first_where}
+use Rattle.std.specs.Prelude.{◌≡◌, ℕ, zero, suc, ◌+◌, ◌^◌, ◌<◌, ◌≤◌, Bool, true, false, cond, not, ◌||◌, ◌⊎◌, List, [], length, take, drop, ℤ, pos, ◌==◌, nat_lt, slice_index, MatchOption}
+use Rattle.std.specs.Prelude.{Option, None, Some}
+use Rattle.std.specs.List.{list_any}
+use Rattle.std.specs.Borrow.{Bor}
+use Rattle.numbers.specs.Lists.{first_where}
 use Rattle.methodology.specs.Text.{tab, LF, is_digit, value_from, number_of, signed_of, kind_of, also}
-use Rattle.fields.specs.declared.Natural.{Natural}
 
 -- ---- the field at the front of a text
 
@@ -29,50 +30,39 @@ ender s = slice_index s (size s)
 abbrev pub past : List ℕ → List ℕ
 past s = drop (size s + 1) s
 
+-- What a reader of the field answers: its value, and what follows it; or nothing, where there is no value.
+abbrev pub Reads : {A : Type 0} → (value : Option A) → (text : List ℕ) → Option (A × Bor (List ℕ)) → Type 0
+Reads value s result = MatchOption result (value ≡ None) (λ r. (value ≡ Some r.0) × (r.1.now ≡ past s))
+
 -- ---- its digits
 
--- A reader began at index q of a text and is at index i, where the digits before i make v: the field's value, whether a byte of it is no
--- digit, and how many bytes it has are those of what is left of it.
-pub record Run (s : List ℕ) (q i v : ℕ) : Type 0 where
-  pub from : q ≤ i
+-- A reader is at index i of a text, where the digits before i make v: the field's value, whether a byte of it is no digit, and how many
+-- bytes it has are those of what is left of it.
+pub record Run (s : List ℕ) (i v : ℕ) : Type 0 where
   pub within : i ≤ length s
-  pub few : i ≤ q + 13
-  pub small : v < 10 ^ (i - q)
-  pub value : value_from 0 (front (drop q s)) ≡ value_from v (front (drop i s))
-  pub odds : any not_digit (front (drop q s)) ≡ any not_digit (front (drop i s))
-  pub counts : q + size (drop q s) ≡ i + size (drop i s)
+  pub few : i ≤ 13
+  pub small : v < 10 ^ i
+  pub value : value_from 0 (front s) ≡ value_from v (front (drop i s))
+  pub odds : list_any not_digit (front s) ≡ list_any not_digit (front (drop i s))
+  pub counts : size s ≡ i + size (drop i s)
 
 -- its digits are over at index i: it has read `most`, or the byte there is none
-abbrev pub Over : (s : List ℕ) → (q most i : ℕ) → Type 0
-Over s q most i = (i ≡ q + most) ⊎ (is_digit (slice_index s i) ≡ false)
+abbrev pub Over : (s : List ℕ) → (most i : ℕ) → Type 0
+Over s most i = (i ≡ most) ⊎ (is_digit (slice_index s i) ≡ false)
 
 -- ---- its value
 
 -- the number that it is, if the byte `end` ends it
 unfoldable pub number_at : (end : ℕ) → List ℕ → Option ℕ
-number_at end s = cond (ender s == end) (number_of (front s)) none
-
--- what a reader answers: the number, and the index after the byte that ends it, which is 0 where there is no number
-unfoldable pub told : Option ℕ → (next : ℕ) → Natural
-told none next = record { value = 0; next = 0 }
-told (some v) next = record { value = v; next = next }
-
--- 1 where it begins with a minus, else 0
-unfoldable pub minus_of : List ℕ → ℕ
-minus_of s = cond (slice_index s 0 == 45) 1 0
+number_at end s = cond (ender s == end) (number_of (front s)) None
 
 -- the kind's number, if the field is ASCII, or the signed number
 unfoldable pub value_of : (lettered : Bool) → (field : List ℕ) → Option ℤ
-value_of true f = cond (any (nat_lt 127) f) none (some (pos (kind_of f)))
+value_of true f = cond (list_any (nat_lt 127) f) None (Some (pos (kind_of f)))
 value_of false f = signed_of f
 
 unfoldable pub value_at : (lettered : Bool) → (end : ℕ) → List ℕ → Option ℤ
-value_at lettered end s = cond (ender s == end) (value_of lettered (front s)) none
-
--- a value stands in place j and the answer is `next`; or there is none, the row is as before and the answer is 0
-unfoldable pub OneIs : Option ℤ → (next j : ℕ) → (row row' : List ℤ) → (r : ℕ) → Type 0
-OneIs none next j row row' r = (r ≡ 0) × (row' ≡ row)
-OneIs (some z) next j row row' r = (r ≡ next) × (row' ≡ slice_set row j z)
+value_at lettered end s = cond (ender s == end) (value_of lettered (front s)) None
 
 -- ---- the fields up to the line's end
 
@@ -83,15 +73,14 @@ due (suc left) = tab
 
 -- the values of n fields, from field j on: field `place` is a kind, the others are signed numbers
 unfoldable pub row_at : (place j n : ℕ) → List ℕ → Option (List ℤ)
-row_at place j zero s = some []
+row_at place j zero s = Some []
 row_at place j (suc n) s = also (value_at (j == place) (due n) s) (row_at place (suc j) n (past s))
 
--- how many bytes n fields have, with those that end them
-unfoldable pub span : (n : ℕ) → List ℕ → ℕ
-span zero s = 0
-span (suc n) s = size s + 1 + span n (past s)
+-- what follows n fields
+unfoldable pub past_row : (n : ℕ) → List ℕ → List ℕ
+past_row zero s = s
+past_row (suc n) s = past_row n (past s)
 
--- the values stand in the row and the answer is `next`; or there are none and the answer is 0
-unfoldable pub RowIs : {A : Type 0} → Option (List A) → (next : ℕ) → (row : List A) → (r : ℕ) → Type 0
-RowIs none next row r = r ≡ 0
-RowIs (some l) next row r = (r ≡ next) × (row ≡ l)
+-- What the reader of a row of n fields answers: what follows them, and their values stand in the row; or nothing, where they have none.
+abbrev pub RowReads : (values : Option (List ℤ)) → (n : ℕ) → (text : List ℕ) → (row : List ℤ) → Option (Bor (List ℕ)) → Type 0
+RowReads values n s row result = MatchOption result (values ≡ None) (λ rest. (values ≡ Some row) × (rest.now ≡ past_row n s))

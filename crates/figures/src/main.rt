@@ -3,282 +3,235 @@
 // member's raw, funded and unfunded contribution.
 #![tactic(auto)]
 
-use methodology::DayTerms;
-use period::{Outcome, Period};
+ghost use Rattle.std.specs.Prelude.{◌≡◌, ◌*◌, ◌≤◌, length};
+
+use methodology::{Day, DayTerms, Heading, KIND_A, KIND_H, KIND_R, KIND_U};
+use period::{Accepted, Period};
 use printing::put_rows;
-use std::io;
+use std::{array, io};
 
-// A period that is open, with these groups and k scenarios.
-fn opened(groups: &[u64], k: u64) -> Period {
-    let fresh = Period::fresh();
-    let reply = fresh.opening(groups.len() as u64, k, groups);
-    reply.period
-}
-
-// A day: the figure's number, T and Max EUL, then each member's five numbers. The period is handed back.
-fn size(
-    rt: &impl Print,
-    figure: u64,
-    period: Period,
+// A figure's period and a day in it.
+#[derive(Clone, Copy)]
+struct Figure<'a> {
     number: u64,
-    members: &[u64],
-    numbers: &[u64],
-    kinds: &[u64],
-    npvs: &[i64],
-    margins: &[u64],
-    extras: &[u64],
-    out: &mut [u64],
-) -> io::Result<Period> {
-    let headings = headings::pack(members, numbers, kinds);
-    let reply = period.day_of(
-        DayTerms { number },
-        headings,
-        members.len(),
-        npvs,
-        margins,
-        extras,
-        out,
-    );
-    let outcome = reply.outcome;
-    if let Outcome::Sized(total, top) = outcome {
-        put_rows(rt, &[figure, total, top], 3)?;
-    }
-    put_rows(rt, out, 5)?;
-    Ok(reply.period)
+    groups: &'a [u64],
+    k: u64,
+    day: Day<'a>,
+    ghost few: { length groups.now ≤ 6 },
 }
 
-// The closing: D, M and the total funded, then each member's three numbers.
+impl<'a> Figure<'a> {
+    // The period, opened.
+    fn opened(&self) -> Period {
+        Period::fresh()
+            .opening(self.groups.len() as u64, self.k, self.groups)
+            .period
+    }
+
+    // Has the period size the day, and prints what it says and writes. The period is handed back.
+    fn size(&self, rt: &impl Print, period: Period) -> io::Result<Period> {
+        let mut room = [0; 30];
+        let out = &mut room[..5 * self.groups.len()];
+        let reply = period.day(&self.day, out);
+        if let Ok(Accepted::Sized(total, max)) = reply.outcome {
+            let figure = self.number;
+            println!(rt; "{figure}\t{total}\t{max}")?;
+        }
+        put_rows(rt, out, 5)?;
+        Ok(reply.period)
+    }
+}
+
+// Closes the period, and prints D, M and the total funded, then each member's three numbers.
 fn close(rt: &impl Print, period: Period, out: &mut [u64]) -> io::Result<()> {
     let reply = period.closing(out);
-    let outcome = reply.outcome;
-    if let Outcome::Closed(days, highest, funds) = outcome {
-        put_rows(rt, &[days, highest, funds], 3)?;
+    if let Ok(Accepted::Closed(days, highest, funds)) = reply.outcome {
+        println!(rt; "{days}\t{highest}\t{funds}")?;
     }
     put_rows(rt, out, 3)
 }
 
-// Figures 1 and 2: the six members of 001, the first one's margin as given.
-fn illustrative(rt: &impl Print, figure: u64, margin: u64) -> io::Result<()> {
-    let groups = [0u64; 6];
-    let members = [1u64, 2, 3, 4, 5, 6];
-    let zeros = [0u64; 6];
-    let npvs = [1000i64, 0, 300, 0, 500, 0, 800, 0, 600, 0, 400, 0];
-    let margins = [margin, 100, 250, 300, 400, 200];
-    let mut out = [0u64; 30];
-    size(
-        rt,
-        figure,
-        opened(&groups, 1),
-        1,
-        &members,
-        &zeros,
-        &zeros,
-        &npvs,
-        &margins,
-        &zeros,
-        &mut out,
-    )?;
-    Ok(())
+// The house accounts of the first members.
+fn houses<const N: usize>() -> [Heading; N] {
+    array::from_fn(|i| Heading {
+        member: i as u64 + 1,
+        number: 0,
+        kind: KIND_H,
+    })
 }
 
-// Figure 3: house -40; R 60, 50, 30, -25; U 20; A 10.
-fn all_kinds(rt: &impl Print) -> io::Result<()> {
-    let members = [1u64; 7];
-    let numbers = [0u64, 1, 2, 3, 4, 5, 6];
-    let kinds = [0u64, 1, 1, 1, 1, 3, 2];
-    let npvs = [0i64, 0, 60, 0, 50, 0, 30, 0, 0, 0, 20, 0, 10, 0];
-    let margins = [40u64, 0, 0, 0, 25, 0, 0];
-    let extras = [0u64; 7];
-    let mut out = [0u64; 5];
-    size(
-        rt,
-        3,
-        opened(&[0u64], 1),
-        1,
-        &members,
-        &numbers,
-        &kinds,
-        &npvs,
-        &margins,
-        &extras,
-        &mut out,
-    )?;
-    Ok(())
+// Member 1's accounts, from number 0 on, by their kinds.
+fn accounts<const N: usize>(kinds: [u64; N]) -> [Heading; N] {
+    array::from_fn(|i| Heading {
+        member: 1,
+        number: i as u64,
+        kind: kinds[i],
+    })
 }
 
-// Figure 4: house 0; R 10, 10; U 100.
-fn half_of_all_clients(rt: &impl Print) -> io::Result<()> {
-    let members = [1u64; 4];
-    let numbers = [0u64, 1, 2, 3];
-    let kinds = [0u64, 1, 1, 3];
-    let npvs = [0i64, 0, 10, 0, 10, 0, 100, 0];
-    let zeros = [0u64; 4];
-    let mut out = [0u64; 5];
-    size(
-        rt,
-        4,
-        opened(&[0u64], 1),
-        1,
-        &members,
-        &numbers,
-        &kinds,
-        &npvs,
-        &zeros,
-        &zeros,
-        &mut out,
-    )?;
-    Ok(())
-}
-
-// Figure 5: house 0; R five times 3.
-fn half_dollar(rt: &impl Print) -> io::Result<()> {
-    let members = [1u64; 6];
-    let numbers = [0u64, 1, 2, 3, 4, 5];
-    let kinds = [0u64, 1, 1, 1, 1, 1];
-    let npvs = [0i64, 0, 3, 0, 3, 0, 3, 0, 3, 0, 3, 0];
-    let zeros = [0u64; 6];
-    let mut out = [0u64; 5];
-    size(
-        rt,
-        5,
-        opened(&[0u64], 1),
-        1,
-        &members,
-        &numbers,
-        &kinds,
-        &npvs,
-        &zeros,
-        &zeros,
-        &mut out,
-    )?;
-    Ok(())
-}
-
-// Figure 6: Affiliates 100 and -30 under one scenario.
-fn affiliate_covered(rt: &impl Print) -> io::Result<()> {
-    let members = [1u64, 2];
-    let zeros = [0u64; 2];
-    let npvs = [100i64, 0, 0, 0];
-    let margins = [0u64, 30];
-    let mut out = [0u64; 10];
-    size(
-        rt,
-        6,
-        opened(&[1u64, 1], 1),
-        1,
-        &members,
-        &zeros,
-        &zeros,
-        &npvs,
-        &margins,
-        &zeros,
-        &mut out,
-    )?;
-    Ok(())
-}
-
-// Figure 7: Affiliates 100 and 80, a third member 150.
-fn affiliates_above_a_third(rt: &impl Print) -> io::Result<()> {
-    let members = [1u64, 2, 3];
-    let zeros = [0u64; 3];
-    let npvs = [100i64, 0, 80, 0, 150, 0];
-    let mut out = [0u64; 15];
-    size(
-        rt,
-        7,
-        opened(&[1u64, 1, 0], 1),
-        1,
-        &members,
-        &zeros,
-        &zeros,
-        &npvs,
-        &zeros,
-        &zeros,
-        &mut out,
-    )?;
-    Ok(())
-}
-
-// Figure 8: Affiliates, one losing 100 under 1 only, the other 80 under 2 only.
-fn scenarios_apart(rt: &impl Print) -> io::Result<()> {
-    let members = [1u64, 2];
-    let zeros = [0u64; 2];
-    let npvs = [100i64, 0, 100, 80, 80, 0];
-    let mut out = [0u64; 10];
-    size(
-        rt,
-        8,
-        opened(&[1u64, 1], 2),
-        1,
-        &members,
-        &zeros,
-        &zeros,
-        &npvs,
-        &zeros,
-        &zeros,
-        &mut out,
-    )?;
+// The figures of one day and no closing.
+fn single_days(rt: &impl Print) -> io::Result<()> {
+    let first = DayTerms { number: 1 };
+    let illustrative = Day {
+        terms: first,
+        headings: &houses::<6>(),
+        npvs: &[1000, 0, 300, 0, 500, 0, 800, 0, 600, 0, 400, 0],
+        margins: &[550, 100, 250, 300, 400, 200],
+        extras: &[0; 6],
+    };
+    let figures = [
+        // The six members of 001.
+        Figure {
+            number: 1,
+            groups: &[0; 6],
+            k: 1,
+            day: illustrative,
+        },
+        // The same, the first one's margin being 700.
+        Figure {
+            number: 2,
+            groups: &[0; 6],
+            k: 1,
+            day: Day {
+                margins: &[700, 100, 250, 300, 400, 200],
+                ..illustrative
+            },
+        },
+        // House -40; R 60, 50, 30, -25; U 20; A 10.
+        Figure {
+            number: 3,
+            groups: &[0],
+            k: 1,
+            day: Day {
+                terms: first,
+                headings: &accounts([KIND_H, KIND_R, KIND_R, KIND_R, KIND_R, KIND_U, KIND_A]),
+                npvs: &[0, 0, 60, 0, 50, 0, 30, 0, 0, 0, 20, 0, 10, 0],
+                margins: &[40, 0, 0, 0, 25, 0, 0],
+                extras: &[0; 7],
+            },
+        },
+        // House 0; R 10, 10; U 100.
+        Figure {
+            number: 4,
+            groups: &[0],
+            k: 1,
+            day: Day {
+                terms: first,
+                headings: &accounts([KIND_H, KIND_R, KIND_R, KIND_U]),
+                npvs: &[0, 0, 10, 0, 10, 0, 100, 0],
+                margins: &[0; 4],
+                extras: &[0; 4],
+            },
+        },
+        // House 0; R five times 3.
+        Figure {
+            number: 5,
+            groups: &[0],
+            k: 1,
+            day: Day {
+                terms: first,
+                headings: &accounts([KIND_H, KIND_R, KIND_R, KIND_R, KIND_R, KIND_R]),
+                npvs: &[0, 0, 3, 0, 3, 0, 3, 0, 3, 0, 3, 0],
+                margins: &[0; 6],
+                extras: &[0; 6],
+            },
+        },
+        // Affiliates 100 and -30 under one scenario.
+        Figure {
+            number: 6,
+            groups: &[1, 1],
+            k: 1,
+            day: Day {
+                terms: first,
+                headings: &houses::<2>(),
+                npvs: &[100, 0, 0, 0],
+                margins: &[0, 30],
+                extras: &[0; 2],
+            },
+        },
+        // Affiliates 100 and 80, a third member 150.
+        Figure {
+            number: 7,
+            groups: &[1, 1, 0],
+            k: 1,
+            day: Day {
+                terms: first,
+                headings: &houses::<3>(),
+                npvs: &[100, 0, 80, 0, 150, 0],
+                margins: &[0; 3],
+                extras: &[0; 3],
+            },
+        },
+        // Affiliates, one losing 100 under 1 only, the other 80 under 2 only.
+        Figure {
+            number: 8,
+            groups: &[1, 1],
+            k: 2,
+            day: Day {
+                terms: first,
+                headings: &houses::<2>(),
+                npvs: &[100, 0, 100, 80, 80, 0],
+                margins: &[0; 2],
+                extras: &[0; 2],
+            },
+        },
+    ];
+    for figure in figures {
+        figure.size(rt, figure.opened())?;
+    }
     Ok(())
 }
 
 // Figure 9: one day, three losses of 200,000,000.
 fn three_alike(rt: &impl Print) -> io::Result<()> {
-    let members = [1u64, 2, 3];
-    let zeros = [0u64; 3];
-    let npvs = [200_000_000i64, 0, 200_000_000, 0, 200_000_000, 0];
-    let mut out = [0u64; 15];
-    let period = size(
-        rt,
-        9,
-        opened(&zeros, 1),
-        1,
-        &members,
-        &zeros,
-        &zeros,
-        &npvs,
-        &zeros,
-        &zeros,
-        &mut out,
-    )?;
-    let mut due = [0u64; 9];
-    close(rt, period, &mut due)
-}
-
-// A day of two members with the given losses.
-fn two_members(
-    rt: &impl Print,
-    period: Period,
-    number: u64,
-    first: i64,
-    second: i64,
-) -> io::Result<Period> {
-    let members = [1u64, 2];
-    let zeros = [0u64; 2];
-    let npvs = [first, 0, second, 0];
-    let mut out = [0u64; 10];
-    size(
-        rt, 10, period, number, &members, &zeros, &zeros, &npvs, &zeros, &zeros, &mut out,
-    )
+    let figure = Figure {
+        number: 9,
+        groups: &[0; 3],
+        k: 1,
+        day: Day {
+            terms: DayTerms { number: 1 },
+            headings: &houses::<3>(),
+            npvs: &[200_000_000, 0, 200_000_000, 0, 200_000_000, 0],
+            margins: &[0; 3],
+            extras: &[0; 3],
+        },
+    };
+    let period = figure.size(rt, figure.opened())?;
+    close(rt, period, &mut [0; 9])
 }
 
 // Figure 10: days (100m, 100m) and (0, 600m), of which the second has the higher Max EUL.
 fn two_days(rt: &impl Print) -> io::Result<()> {
-    let open = opened(&[0u64, 0], 1);
-    let first = two_members(rt, open, 1, 100_000_000, 100_000_000)?;
-    let second = two_members(rt, first, 2, 0, 600_000_000)?;
-    let mut due = [0u64; 6];
-    close(rt, second, &mut due)
+    let day = Day {
+        terms: DayTerms { number: 1 },
+        headings: &houses::<2>(),
+        npvs: &[100_000_000, 0, 100_000_000, 0],
+        margins: &[0; 2],
+        extras: &[0; 2],
+    };
+    let first = Figure {
+        number: 10,
+        groups: &[0; 2],
+        k: 1,
+        day,
+    };
+    let second = Figure {
+        number: 10,
+        groups: &[0; 2],
+        k: 1,
+        day: Day {
+            terms: DayTerms { number: 2 },
+            npvs: &[0, 0, 600_000_000, 0],
+            ..day
+        },
+    };
+    let period = first.size(rt, first.opened())?;
+    let period = second.size(rt, period)?;
+    close(rt, period, &mut [0; 6])
 }
 
 fn main(rt: HostRuntime) -> io::Result<()> {
-    illustrative(&rt, 1, 550)?;
-    illustrative(&rt, 2, 700)?;
-    all_kinds(&rt)?;
-    half_of_all_clients(&rt)?;
-    half_dollar(&rt)?;
-    affiliate_covered(&rt)?;
-    affiliates_above_a_third(&rt)?;
-    scenarios_apart(&rt)?;
+    single_days(&rt)?;
     three_alike(&rt)?;
     two_days(&rt)
 }

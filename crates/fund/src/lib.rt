@@ -24,44 +24,35 @@ fn write_five(e: u64, max: u64, t: u64, out: &mut [u64])
     out[4] = cents.estimate;
 }
 
-// The five daily numbers of n members with these losses.
-pub fn write_dailies(losses: [u64; 32], n: usize, max: u64, total: u64, out: &mut [u64])
-    requires n_bound { (n ≤ 32) × (length out.old ≡ 5 * n) }
-    requires by_index { (i : ℕ) → i < n → Loss (get_or losses i 0) total }
-    requires max_le_greatest_total { max ≤ greatest_total }
-    ensures { out.new ≡ flat_map (λ e. five e max total) (take n losses) }
+// The five daily numbers of members with these losses.
+pub fn write_dailies(losses: &[u64], max: u64, total: u64, out: &mut [u64])
+    requires sizes { (length losses.now ≤ 32) × (length out.old ≡ 5 * length losses.now) }
+    requires each_loss { (i : ℕ) → i < length losses.now → Loss (get_or losses.now i 0) total }
+    requires max_bound { max ≤ greatest_total }
+    ensures { out.new ≡ flat_map (λ e. five e max total) losses.now }
 {
-    for i in 0..n {
+    for (i, &loss) in losses.iter().enumerate() {
         // The form that document 01 names: "each member's five into its own stretch of the lent buffer".
-        write_five(losses[i], max, total, &mut out[5 * i..]);
+        write_five(loss, max, total, &mut out[5 * i..]);
     }
 }
 
-// The sums of n members' shares, with those that stand in what a day wrote.
+// The sums of n members' shares, with those that stand in what a day wrote. They are an array by value, as a period holds them: no heap.
 pub fn with_shares(sums: [u64; 32], n: usize, out: &[u64]) -> [u64; 32]
-    requires n_bound { (n ≤ 32) × (length out.now ≡ 5 * n) }
-    requires by_index { (i : ℕ) → i < n → share_in out.now i ≤ scale }
-    requires by_index_2 { (i : ℕ) → get_or sums i 0 ≤ 31 * scale }
+    requires sizes { (n ≤ 32) × (length out.now ≡ 5 * n) }
+    requires each_share { (i : ℕ) → i < n → share_in out.now i ≤ scale }
+    requires each_sum { (i : ℕ) → get_or sums i 0 ≤ 31 * scale }
     ensures { result ≡ with_shares sums n out.now }
 {
     let mut all = sums;
-    let mut i: usize = 0;
-    while i < n {
-        all[i] = sums[i] + out[5 * i + 1];
-        i += 1;
+    for i in 0..n {
+        all[i] += out[5 * i + 1];
     }
     all
 }
 
 // The Rates and FX Minimum Contribution Amount.
 const MINIMUM: u64 = 50_000_000;
-
-// The funded contribution for a raw charge.
-fn at_least_minimum(raw: u64) -> u64
-    ensures { result ≡ funded raw }
-{
-    if raw < MINIMUM { MINIMUM } else { raw }
-}
 
 // One member's raw charge, funded and unfunded contribution, at the front of out. The funded one is returned.
 fn write_three(raw: u64, out: &mut [u64]) -> u64
@@ -70,7 +61,7 @@ fn write_three(raw: u64, out: &mut [u64]) -> u64
     ensures value { result ≡ funded raw }
     ensures out_after { out.new ≡ three raw ++ drop 3 out.old }
 {
-    let funded = at_least_minimum(raw);
+    let funded = raw.max(MINIMUM);
     out[0] = raw;
     out[1] = funded;
     out[2] = 2 * funded;
@@ -85,17 +76,16 @@ fn raw_charge(m: u64, s: u64, d: u64) -> u64
     if d == 0 { 0 } else { quotient::raw(m, s, d) }
 }
 
-// The three numbers of n members whose shares have these sums over d days, where the highest Max EUL is m. The total funded is returned.
-pub fn write_contributions(sums: [u64; 32], n: usize, m: u64, d: u64, out: &mut [u64]) -> u64
-    requires n_bound { (n ≤ 32) × (length out.old ≡ 3 * n) }
-    requires by_index { (i : ℕ) → i < n → Charge m (get_or sums i 0) d }
-    ensures value { result ≡ Σ (take n sums) (λ s. funded (charge m s d)) }
-    ensures out_after { out.new ≡ flat_map (λ s. three (charge m s d)) (take n sums) }
+// The three numbers of members whose shares have these sums over d days, where the highest Max EUL is m. The total funded is returned.
+pub fn write_contributions(sums: &[u64], m: u64, d: u64, out: &mut [u64]) -> u64
+    requires sizes { (length sums.now ≤ 32) × (length out.old ≡ 3 * length sums.now) }
+    requires each_sum { (i : ℕ) → i < length sums.now → Charge m (get_or sums.now i 0) d }
+    ensures value { result ≡ Σ sums.now (λ s. funded (charge m s d)) }
+    ensures out_after { out.new ≡ flat_map (λ s. three (charge m s d)) sums.now }
 {
     let mut total: u64 = 0;
-    for i in 0..n {
-        let raw = raw_charge(m, sums[i], d);
-        total += write_three(raw, &mut out[3 * i..]);
+    for (i, &sum) in sums.iter().enumerate() {
+        total += write_three(raw_charge(m, sum, d), &mut out[3 * i..]);
     }
     total
 }

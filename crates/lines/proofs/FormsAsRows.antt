@@ -3,7 +3,7 @@
 use mathlib.Core.Path.{◌≡◌, refl, sym, ◌∙◌}
 use mathlib.Core.Bool.{Bool, true, false, not, ◌&&◌, ◌||◌, cond}
 use mathlib.Core.List.{List, [], ◌∷◌, ◌++◌, map}
-use mathlib.Core.Option.{Option, none, some}
+use Rattle.std.specs.Prelude.{Option, None, Some}
 use Prim.Native.Nat.{ℕ, zero, suc, ◌+◌, ◌≤◌, ◌<◌}
 use native.Mathlib.Numerals.{add-one}
 use native.Mathlib.Omega.{arith}
@@ -11,44 +11,44 @@ use lib.Dec.{eqb, ltb}
 use lib.IntN.{ℤ, pos}
 use lib.ListN.{length, get_or, take, drop, length-drop}
 use borrow.Author.Tests.{eqb-true, ne_eqb, le-ltb}
-use Rattle.numbers.specs.Lists.{any}
+use Rattle.std.specs.List.{list_any}
 use Rattle.numbers.specs.Signed.{◌⁺}
 use Rattle.numbers.proofs.Tests.{neither}
 use Rattle.methodology.specs.Refusals.{outside}
-use Rattle.methodology.specs.Text.{LF, tab, bytes, same, fields, value_from, number_of, below0, above0, signed_of, kind_of, also, every_field, bad_bytes, numbers_after, account_by, account_of}
+use Rattle.methodology.specs.Text.{AccountLine, LF, tab, bytes, same, fields, value_from, number_of, below0, above0, signed_of, kind_of, also, every_field, bad_bytes, numbers_after, account_by, account_of}
 use Rattle.methodology.specs.Lines.{has, before, line_read}
 use Rattle.fields.specs.Fields.{value_of}
-use Rattle.lines.specs.Forms.{values_of, row_after, line_row, is_negative, naturals, account_in, account_from}
+use Rattle.lines.specs.Forms.{values_of, row_after, line_row, is_negative}
 use Rattle.lines.proofs.RowOfLine.{also_none}
 use Rattle.lines.proofs.Ascii.{foreign, any_split}
 
 -- ---- one field
 
 -- a signed number that is not negative
-unfoldable natural : Option ℤ → Option ℕ
-natural none = none
-natural (some z) = cond (is_negative z) none (some (z ⁺))
+unfoldable pub natural : Option ℤ → Option ℕ
+natural None = None
+natural (Some z) = cond (is_negative z) None (Some (z ⁺))
 
 -- a minus is no digit
-minus_none : (f : List ℕ) → eqb (get_or f 0 0) 45 ≡ true → number_of f ≡ none
-unfolding number_of any
+minus_none : (f : List ℕ) → eqb (get_or f 0 0) 45 ≡ true → number_of f ≡ None
+unfolding number_of
 minus_none [] e = refl
 minus_none (x ∷ f) e = rw (eqb-true x 45 e) (by (outside 1 13 (suc (length f))))
   where
-    by : (a : Bool) → cond (a || true || eqb 45 48 && ltb 1 (suc (length f))) none (some (value_from 0 (45 ∷ f))) ≡ none
+    by : (a : Bool) → cond (a || true || eqb 45 48 && ltb 1 (suc (length f))) None (Some (value_from 0 (45 ∷ f))) ≡ None
     by true = refl
     by false = refl
 
-below_none : (o : Option ℕ) → natural (below0 o) ≡ none
+below_none : (o : Option ℕ) → natural (below0 o) ≡ None
 unfolding natural below0
-below_none none = refl
-below_none (some zero) = refl
-below_none (some (suc v)) = rw (ne_eqb (suc v) 0 (λ e. omega arith))
+below_none None = refl
+below_none (Some zero) = refl
+below_none (Some (suc v)) = rw (ne_eqb (suc v) 0 (λ e. omega arith))
 
 above_same : (o : Option ℕ) → natural (above0 o) ≡ o
 unfolding natural above0
-above_same none = refl
-above_same (some v) = rw (le-ltb v 0 (omega arith))
+above_same None = refl
+above_same (Some v) = rw (le-ltb v 0 (omega arith))
 
 number_signed : (f : List ℕ) → number_of f ≡ natural (signed_of f)
 unfolding signed_of
@@ -61,38 +61,43 @@ number_signed f = by (eqb (get_or f 0 0) 45) refl
 -- ---- a line
 
 -- what is read of a line in two ways, where the one follows from the other for a line of good bytes
-read_by : {A B : Type 0} (f : List ℕ → Option A) (h : List ℕ → Option B) (G : Option B → Option A) → G none ≡ none → ((l : List ℕ) → bad_bytes l ≡ false → f l ≡ G (h l))
+read_by : {A B : Type 0} (f : List ℕ → Option A) (h : List ℕ → Option B) (G : Option B → Option A) → G None ≡ None → ((l : List ℕ) → bad_bytes l ≡ false → f l ≡ G (h l))
     → (s : List ℕ) → line_read f s ≡ G (line_read h s)
 unfolding line_read
 read_by f h G e k s = by (has LF s) (bad_bytes (before LF s)) refl
   where
-    by : (t b : Bool) → bad_bytes (before LF s) ≡ b → cond (t && not b) (f (before LF s)) none ≡ G (cond (t && not b) (h (before LF s)) none)
+    by : (t b : Bool) → bad_bytes (before LF s) ≡ b → cond (t && not b) (f (before LF s)) None ≡ G (cond (t && not b) (h (before LF s)) None)
     by false b q = sym e
     by true true q = sym e
     by true false q = k (before LF s) q
 
 -- two forms that test the same word and the same number of fields
-form_by : {A B : Type 0} (b c : Bool) (x : Option A) (y : Option B) (G : Option B → Option A) → G none ≡ none → (c ≡ true → x ≡ G y) → cond (b && c) x none ≡ G (cond (b && c) y none)
+form_by : {A B : Type 0} (b c : Bool) (x : Option A) (y : Option B) (G : Option B → Option A) → G None ≡ None → (c ≡ true → x ≡ G y) → cond (b && c) x None ≡ G (cond (b && c) y None)
 form_by false c x y G e k = sym e
 form_by true false x y G e k = sym e
 form_by true true x y G e k = k refl
 
 -- ---- numbers
 
+-- signed numbers that are none of them negative
+unfoldable pub naturals : Option (List ℤ) → Option (List ℕ)
+naturals None = None
+naturals (Some zs) = cond (list_any is_negative zs) None (Some (map (λ z. z ⁺) zs))
+
 also_naturals : (a : Option ℤ) (o : Option (List ℤ)) → also (natural a) (naturals o) ≡ naturals (also a o)
-unfolding also natural naturals any
-also_naturals none o = refl
-also_naturals (some x) none = also_none (natural (some x))
-also_naturals (some x) (some zs) = by (is_negative x) (any is_negative zs)
+unfolding also natural naturals
+also_naturals None o = refl
+also_naturals (Some x) None = also_none (natural (Some x))
+also_naturals (Some x) (Some zs) = by (is_negative x) (list_any is_negative zs)
   where
-    by : (s t : Bool) → also (cond s none (some (x ⁺))) (cond t none (some (map (λ z. z ⁺) zs))) ≡ cond (s || t) none (some (x ⁺ ∷ map (λ z. z ⁺) zs))
+    by : (s t : Bool) → also (cond s None (Some (x ⁺))) (cond t None (Some (map (λ z. z ⁺) zs))) ≡ cond (s || t) None (Some (x ⁺ ∷ map (λ z. z ⁺) zs))
     by true t = refl
     by false true = refl
     by false false = refl
 
 -- fields before the place of the kind
 number_fields : (place j : ℕ) (fs : List (List ℕ)) → j + length fs ≤ place → every_field number_of fs ≡ naturals (values_of place j fs)
-unfolding every_field values_of value_of naturals any
+unfolding every_field values_of value_of naturals
 number_fields place j [] h = refl
 number_fields place j (f ∷ fs) h =
     rw (number_signed f, ne_eqb j place (λ e. omega arith), number_fields place (suc j) fs (omega arith)) (also_naturals (signed_of f) (values_of place (suc j) fs))
@@ -106,26 +111,47 @@ numbers_row word n s =
 
 -- ---- an account
 
-account_none : (o : Option (List ℕ)) (kind : ℕ) → account_by o none kind ≡ none
+-- an account's row: member, account number, kind, base, margin, extra, stresses
+abbrev pub account_in : List ℤ → AccountLine
+account_in zs =
+    record {
+      member = get_or zs 0 (pos 0) ⁺;
+      number = get_or zs 1 (pos 0) ⁺;
+      kind = get_or zs 2 (pos 0) ⁺;
+      npvs = get_or zs 3 (pos 0) ∷ drop 6 zs;
+      margin = get_or zs 4 (pos 0) ⁺;
+      extra = get_or zs 5 (pos 0) ⁺;
+    }
+
+-- only NPVs may be negative; a kind is not
+abbrev pub signs_wrong : List ℤ → Bool
+signs_wrong zs =
+    is_negative (get_or zs 0 (pos 0)) || is_negative (get_or zs 1 (pos 0)) || is_negative (get_or zs 4 (pos 0)) || is_negative (get_or zs 5 (pos 0))
+
+unfoldable pub account_from : Option (List ℤ) → Option AccountLine
+account_from None = None
+account_from (Some zs) = cond (signs_wrong zs) None (Some (account_in zs))
+
+account_none : (o : Option (List ℕ)) (kind : ℕ) → account_by o None kind ≡ None
 unfolding account_by
-account_none none kind = refl
-account_none (some ns) kind = refl
+account_none None kind = refl
+account_none (Some ns) kind = refl
 
 account_values : (a b : Option ℤ) (kind : ℕ) (c d e : Option ℤ) (r : Option (List ℤ))
-    → account_by (also (natural a) (also (natural b) (also (natural d) (also (natural e) (some []))))) (also c r) kind
-    ≡ account_from (also a (also b (also (some (pos kind)) (also c (also d (also e r))))))
+    → account_by (also (natural a) (also (natural b) (also (natural d) (also (natural e) (Some []))))) (also c r) kind
+    ≡ account_from (also a (also b (also (Some (pos kind)) (also c (also d (also e r))))))
 unfolding also natural account_by account_from
-account_values none b kind c d e r = refl
-account_values (some x) none kind c d e r = rw (also_none (natural (some x)))
-account_values (some x) (some y) kind none d e r = account_none (also (natural (some x)) _) kind
-account_values (some x) (some y) kind (some z) none e r = rw (also_none (natural (some y)), also_none (natural (some x)))
-account_values (some x) (some y) kind (some z) (some u) none r = rw (also_none (natural (some u)), also_none (natural (some y)), also_none (natural (some x)))
-account_values (some x) (some y) kind (some z) (some u) (some v) none = account_none (also (natural (some x)) _) kind
-account_values (some x) (some y) kind (some z) (some u) (some v) (some r) = by (is_negative x) (is_negative y) (is_negative u) (is_negative v)
+account_values None b kind c d e r = refl
+account_values (Some x) None kind c d e r = rw (also_none (natural (Some x)))
+account_values (Some x) (Some y) kind None d e r = account_none (also (natural (Some x)) _) kind
+account_values (Some x) (Some y) kind (Some z) None e r = rw (also_none (natural (Some y)), also_none (natural (Some x)))
+account_values (Some x) (Some y) kind (Some z) (Some u) None r = rw (also_none (natural (Some u)), also_none (natural (Some y)), also_none (natural (Some x)))
+account_values (Some x) (Some y) kind (Some z) (Some u) (Some v) None = account_none (also (natural (Some x)) _) kind
+account_values (Some x) (Some y) kind (Some z) (Some u) (Some v) (Some r) = by (is_negative x) (is_negative y) (is_negative u) (is_negative v)
   where
     by : (p q s t : Bool)
-        → account_by (also (cond p none (some (x ⁺))) (also (cond q none (some (y ⁺))) (also (cond s none (some (u ⁺))) (also (cond t none (some (v ⁺))) (some []))))) (some (z ∷ r)) kind
-        ≡ cond (p || q || s || t) none (some (account_in (x ∷ y ∷ pos kind ∷ z ∷ u ∷ v ∷ r)))
+        → account_by (also (cond p None (Some (x ⁺))) (also (cond q None (Some (y ⁺))) (also (cond s None (Some (u ⁺))) (also (cond t None (Some (v ⁺))) (Some []))))) (Some (z ∷ r)) kind
+        ≡ cond (p || q || s || t) None (Some (account_in (x ∷ y ∷ pos kind ∷ z ∷ u ∷ v ∷ r)))
     by true q s t = refl
     by false true s t = refl
     by false false true t = refl
@@ -138,10 +164,10 @@ unfolding values_of every_field value_of
 past_kind kind j [] h = refl
 past_kind kind j (f ∷ fs) h = rw (ne_eqb j kind (λ e. omega arith), past_kind kind (suc j) fs (omega arith))
 
-account_fields : (k : ℕ) (fs : List (List ℕ)) → any foreign fs ≡ false → eqb (length fs) (7 + k) ≡ true
+account_fields : (k : ℕ) (fs : List (List ℕ)) → list_any foreign fs ≡ false → eqb (length fs) (7 + k) ≡ true
     → account_by (every_field number_of (take 2 (drop 1 fs) ++ take 2 (drop 5 fs))) (every_field signed_of (get_or fs 4 [] ∷ drop 7 fs)) (kind_of (get_or fs 3 []))
     ≡ account_from (values_of 2 0 (drop 1 fs))
-unfolding every_field values_of value_of any
+unfolding every_field values_of value_of
 account_fields k (w ∷ a ∷ b ∷ c ∷ d ∷ e ∷ f ∷ fs) q h =
     rw (kind_ascii, number_signed a, number_signed b, number_signed e, number_signed f, past_kind 2 6 fs (omega arith))
     (account_values (signed_of a) (signed_of b) (kind_of c) (signed_of d) (signed_of e) (signed_of f) (every_field signed_of fs))

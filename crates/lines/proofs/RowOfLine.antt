@@ -1,37 +1,38 @@
 -- Fields read one after another up to the line's end are the fields of the line: as many as were due, or there is no row.
 -- By the three ways in which a field ends.
-use mathlib.Core.Path.{◌≡◌, refl, sym, ap}
+use mathlib.Core.Path.{◌≡◌, refl, sym, ap, ◌∙◌}
 use mathlib.Core.Bool.{Bool, true, false, cond}
 use mathlib.Core.List.{List, [], ◌∷◌}
-use mathlib.Core.Option.{Option, none, some}
+use Rattle.std.specs.Prelude.{Option, None, Some}
 use Prim.Native.Nat.{ℕ, zero, suc, ◌+◌, ◌<◌}
 use native.Mathlib.Omega.{arith}
 use lib.Dec.{eqb}
 use lib.IntN.{ℤ}
-use lib.ListN.{length}
+use lib.ListN.{length, drop}
+use lib.Seq.{drop-drop}
 use borrow.Author.Tests.{eqb-true, eqb-false, eq-eqb, ne_eqb}
 use Rattle.methodology.specs.Text.{LF, tab, also}
-use Rattle.methodology.specs.Lines.{index_of, has, before}
+use Rattle.methodology.specs.Lines.{index_of, has, before, after}
 use Rattle.methodology.proofs.Splits.{split_first}
-use Rattle.fields.specs.Fields.{front, ender, past, value_of, value_at, due, row_at, span}
+use Rattle.fields.specs.Fields.{size, front, ender, past, value_of, value_at, due, row_at, past_row}
 use Rattle.lines.specs.Forms.{values_of}
-use Rattle.lines.proofs.Ends.{line_fields, Ends, at_tab, at_lf, nowhere, ends}
+use Rattle.lines.proofs.Ends.{line_fields, Tab, Ends, at_tab, at_lf, nowhere, ends}
 
 -- what is there only where every part is
 abbrev there : Bool → Bool → Option (List ℤ) → Option (List ℤ)
-there b c o = cond b (cond c o none) none
+there b c o = cond b (cond c o None) None
 
-pub also_none : {A : Type 0} (o : Option A) → also o none ≡ none
+pub also_none : {A : Type 0} (o : Option A) → also o None ≡ None
 unfolding also
-also_none none = refl
-also_none (some x) = refl
+also_none None = refl
+also_none (Some x) = refl
 
 also_there : (b c : Bool) (z : Option ℤ) (o : Option (List ℤ)) → also z (there b c o) ≡ there b c (also z o)
 also_there false c z o = also_none z
 also_there true false z o = also_none z
 also_there true true z o = refl
 
-there_none : (b : Bool) (o : Option (List ℤ)) → none ≡ there b false o
+there_none : (b : Bool) (o : Option (List ℤ)) → None ≡ there b false o
 there_none false o = refl
 there_none true o = refl
 
@@ -42,7 +43,7 @@ eqb_suc a b = by (eqb a b) refl
     by true e = eq-eqb (suc a) (suc b) (ap suc (eqb-true a b e))
     by false e = ne_eqb (suc a) (suc b) (λ z. eqb-false a b e (omega arith))
 
-pub some_none : {A : Type 0} {x : A} → some x ≡ none → ⊥
+pub some_none : {A : Type 0} {x : A} → Some x ≡ None → ⊥
 some_none e = let z : ◌≡◌ {A = ℕ} 0 1 = cc in omega arith
 
 -- the values of the line's fields, if it is a line of n fields
@@ -70,20 +71,20 @@ pub row_line : (kind j n : ℕ) (s : List ℕ) → 0 < n → row_at kind j n s �
 row_line kind j zero s h = absurd (omega arith)
 row_line kind j (suc n) s h = row_step kind j n s (λ m z. row_line kind (suc j) n (past s) (omega arith)) (ends s)
 
--- ---- the row's bytes are those of the line, its LF among them
+-- ---- what follows the row follows the line
 
-pub also_some : {A : Type 0} (z : Option A) (o : Option (List A)) (l : List A) → also z o ≡ some l → (m : List A) × (o ≡ some m)
+pub also_some : {A : Type 0} (z : Option A) (o : Option (List A)) (l : List A) → also z o ≡ Some l → (m : List A) × (o ≡ Some m)
 unfolding also
-also_some none o l e = absurd (some_none (sym e))
-also_some (some x) none l e = absurd (some_none (sym e))
-also_some (some x) (some m) l e = (m, refl)
+also_some None o l e = absurd (some_none (sym e))
+also_some (Some x) None l e = absurd (some_none (sym e))
+also_some (Some x) (Some m) l e = (m, refl)
 
-pub also_first : {A : Type 0} (z : Option A) (o : Option (List A)) (l : List A) → also z o ≡ some l → (x : A) × (z ≡ some x)
+pub also_first : {A : Type 0} (z : Option A) (o : Option (List A)) (l : List A) → also z o ≡ Some l → (x : A) × (z ≡ Some x)
 unfolding also
-also_first none o l e = absurd (some_none (sym e))
-also_first (some x) o l e = (x, refl)
+also_first None o l e = absurd (some_none (sym e))
+also_first (Some x) o l e = (x, refl)
 
-value_end : (kind : Bool) (end : ℕ) (s : List ℕ) (o : Option (List ℤ)) (l : List ℤ) → also (value_at kind end s) o ≡ some l → ender s ≡ end
+value_end : (kind : Bool) (end : ℕ) (s : List ℕ) (o : Option (List ℤ)) (l : List ℤ) → also (value_at kind end s) o ≡ Some l → ender s ≡ end
 unfolding value_at also
 value_end kind end s o l e = by (eqb (ender s) end) refl
   where
@@ -91,20 +92,31 @@ value_end kind end s o l e = by (eqb (ender s) end) refl
     by true k = eqb-true (ender s) end k
     by false k = absurd (some_none (sym (rw k at e)))
 
-span_step : (kind j n : ℕ) (s : List ℕ) (l : List ℤ) → ((m : List ℤ) (i : ℕ) → n ≡ suc i → row_at kind (suc j) n (past s) ≡ some m → span n (past s) ≡ index_of LF (past s) + 1) → Ends s
-    → row_at kind j (suc n) s ≡ some l → span (suc n) s ≡ index_of LF s + 1
-unfolding row_at span due
-span_step kind j zero s l ih (at_tab e) r = absurd (let k = value_end _ _ s _ l r in let m = e.ends in omega arith)
-span_step kind j zero s l ih (at_lf e) r = let k = e.length_is in omega arith
-span_step kind j zero s l ih (nowhere e) r = absurd (let k = value_end _ _ s _ l r in let m = e.ends in omega arith)
-span_step kind j (suc n) s l ih (at_tab e) r =
-    let (m, k) = also_some _ _ l r in
-    let z = ih m n refl k in
-    let y = e.length_is in
-    omega arith
-span_step kind j (suc n) s l ih (at_lf e) r = absurd (let k = value_end _ _ s _ l r in let m = e.ends in omega arith)
-span_step kind j (suc n) s l ih (nowhere e) r = absurd (let k = value_end _ _ s _ l r in let m = e.ends in omega arith)
+pub after_tab : (s : List ℕ) → Tab s → after LF (past s) ≡ after LF s
+after_tab s e =
+    let z : size s + 1 + suc (index_of LF (past s)) ≡ suc (index_of LF s) = let k = e.length_is in omega arith in
+    drop-drop (suc (index_of LF (past s))) (size s + 1) s ∙ ap (λ (m : ℕ). drop m s) z
 
-pub span_line : (kind j n : ℕ) (s : List ℕ) (l : List ℤ) → 0 < n → row_at kind j n s ≡ some l → span n s ≡ index_of LF s + 1
-span_line kind j zero s l h r = absurd (omega arith)
-span_line kind j (suc n) s l h r = span_step kind j n s l (λ m i z k. span_line kind (suc j) n (past s) m (omega arith) k) (ends s) r
+past_step : (kind j n : ℕ) (s : List ℕ) (l : List ℤ) → ((m : List ℤ) (i : ℕ) → n ≡ suc i → row_at kind (suc j) n (past s) ≡ Some m → past_row n (past s) ≡ after LF (past s)) → Ends s
+    → row_at kind j (suc n) s ≡ Some l → past_row (suc n) s ≡ after LF s
+unfolding row_at past_row due
+past_step kind j zero s l ih (at_tab e) r = absurd (let k = value_end _ _ s _ l r in let m = e.ends in omega arith)
+past_step kind j zero s l ih (at_lf e) r = let z : size s + 1 ≡ suc (index_of LF s) = let k = e.length_is in omega arith in ap (λ (m : ℕ). drop m s) z
+past_step kind j zero s l ih (nowhere e) r = absurd (let k = value_end _ _ s _ l r in let m = e.ends in omega arith)
+past_step kind j (suc n) s l ih (at_tab e) r =
+    let (m, k) = also_some _ _ l r in
+    ih m n refl k ∙ after_tab s e
+past_step kind j (suc n) s l ih (at_lf e) r = absurd (let k = value_end _ _ s _ l r in let m = e.ends in omega arith)
+past_step kind j (suc n) s l ih (nowhere e) r = absurd (let k = value_end _ _ s _ l r in let m = e.ends in omega arith)
+
+pub past_line : (kind j n : ℕ) (s : List ℕ) (l : List ℤ) → 0 < n → row_at kind j n s ≡ Some l → past_row n s ≡ after LF s
+past_line kind j zero s l h r = absurd (omega arith)
+past_line kind j (suc n) s l h r = past_step kind j n s l (λ m i z k. past_line kind (suc j) n (past s) m (omega arith) k) (ends s) r
+
+-- and an LF ends the line
+pub row_lined : (kind j n : ℕ) (s : List ℕ) (l : List ℤ) → 0 < n → row_at kind j n s ≡ Some l → has LF s ≡ true
+row_lined kind j n s l h r = by (has LF s) (sym (row_line kind j n s h) ∙ r)
+  where
+    by : (b : Bool) → there b (eqb (length (line_fields s)) n) (values_of kind j (line_fields s)) ≡ Some l → b ≡ true
+    by true e = refl
+    by false e = absurd (some_none (sym e))

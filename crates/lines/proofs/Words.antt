@@ -3,26 +3,25 @@
 use mathlib.Core.Path.{◌≡◌, refl, sym, ap, ◌∙◌}
 use mathlib.Core.Bool.{Bool, true, false, not, ◌&&◌, ◌||◌, cond, true≢false}
 use mathlib.Core.List.{List, [], ◌∷◌}
-use mathlib.Core.Option.{Option, none, some}
+use Rattle.std.specs.Prelude.{Option, None, Some}
 use Prim.Native.Nat.{ℕ, zero, suc, ◌+◌, ◌-◌, ◌≤◌, ◌<◌}
 use native.Mathlib.Omega.{arith}
 use lib.Dec.{eqb, ltb}
 use lib.IntN.{ℤ}
 use lib.ListN.{length, get_or, drop, length-drop}
-use lib.Seq.{drop-drop, length-take-le}
-use borrow.Author.Tests.{eq-eqb, ne_eqb, lt-ltb, le-ltb, ltb-false}
-use Rattle.numbers.specs.Lists.{any}
+use lib.Seq.{length-take-le}
+use borrow.Author.Tests.{eq-eqb, ne_eqb, lt-ltb, le-ltb, ltb-false, ltb-true}
+use Rattle.std.specs.List.{list_any}
 use Rattle.numbers.proofs.Tests.{neither}
 use Rattle.numbers.proofs.Lists.{mem_at, at_any, any_false, none_any, first_le}
 use Rattle.methodology.specs.Refusals.{outside}
 use Rattle.methodology.specs.Text.{LF, tab, same, fields, bad_bytes}
-use Rattle.methodology.specs.Lines.{index_of, has, before, line_read}
+use Rattle.methodology.specs.Lines.{index_of, has, before, after, line_read}
 use Rattle.methodology.proofs.Splits.{split_first, same_eq}
-use Rattle.fields.specs.Fields.{stops, size, front, past, row_at, span, RowIs}
-use Rattle.fields.proofs.RowRead.{row_none, row_some}
+use Rattle.fields.specs.Fields.{stops, size, front, past, row_at, past_row}
 use Rattle.lines.specs.Forms.{not_letters, values_of, row_after, line_row}
 use Rattle.lines.proofs.Ends.{line_fields, Tab, Last, Ends, at_tab, at_lf, nowhere, ends}
-use Rattle.lines.proofs.RowOfLine.{eqb_suc, row_line, span_line}
+use Rattle.lines.proofs.RowOfLine.{eqb_suc, row_line, after_tab, past_line, row_lined}
 use Rattle.lines.proofs.Ascii.{foreign, any_split, values_ascii}
 
 same_refl : (s : List ℕ) → same s s ≡ true
@@ -36,7 +35,7 @@ inside [] i x e h = absurd (h (sym e))
 inside (y ∷ s) zero x e h = omega arith
 inside (y ∷ s) (suc i) x e h = let k = inside s i x e h in omega arith
 
-none_either : (b : Bool) → ◌≡◌ {A = Option (List ℤ)} (cond b none none) none
+none_either : (b : Bool) → ◌≡◌ {A = Option (List ℤ)} (cond b None None) None
 none_either true = refl
 none_either false = refl
 
@@ -62,27 +61,27 @@ module _ (word : List ℕ) (letters : not_letters word ≡ false) where
     first_is : first ≡ before tab s
     first_is = ap (λ (l : List (List ℕ)). get_or l 0 []) (split_first tab s)
 
-    no_line : (kind n : ℕ) → has LF s ≡ false → line_row word kind n s ≡ none
+    no_line : (kind n : ℕ) → has LF s ≡ false → line_row word kind n s ≡ None
     unfolding line_read
     no_line kind n e = rw e
 
-    other_form : (kind n : ℕ) → row_after word kind n (before LF s) ≡ none → line_row word kind n s ≡ none
+    other_form : (kind n : ℕ) → row_after word kind n (before LF s) ≡ None → line_row word kind n s ≡ None
     unfolding line_read
     other_form kind n e = rw e (none_either (has LF s && not (bad_bytes (before LF s))))
 
-    other_case : (kind n : ℕ) → 0 < n → same first word ≡ false → Ends s → line_row word kind n s ≡ none
+    other_case : (kind n : ℕ) → 0 < n → same first word ≡ false → Ends s → line_row word kind n s ≡ None
     unfolding row_after
     other_case kind n h e (at_tab t) =
         let k : same (front s) word ≡ false = ap (λ (l : List ℕ). same l word) (sym t.word_is ∙ sym first_is) ∙ e in
         other_form kind n (rw (t.parts, k))
     other_case kind n h e (at_lf t) = other_form kind n (rw (t.parts, ne_eqb 1 (suc n) (λ z. omega arith)) (by (same (front s) word)))
       where
-        by : (b : Bool) → ◌≡◌ {A = Option (List ℤ)} (cond (b && false) (values_of kind 0 []) none) none
+        by : (b : Bool) → ◌≡◌ {A = Option (List ℤ)} (cond (b && false) (values_of kind 0 []) None) None
         by true = refl
         by false = refl
     other_case kind n h e (nowhere t) = no_line kind n t.lined
 
-    pub other_word : (kind n : ℕ) → 0 < n → same first word ≡ false → line_row word kind n s ≡ none
+    pub other_word : (kind n : ℕ) → 0 < n → same first word ≡ false → line_row word kind n s ≡ None
     other_word kind n h e = other_case kind n h e (ends s)
 
     module _ (e : same first word ≡ true) where
@@ -98,12 +97,12 @@ module _ (word : List ℕ) (letters : not_letters word ≡ false) where
       size_is : Tab s → size s ≡ length word
       size_is t = sym (length-take-le (size s) s (first_le stops s)) ∙ ap length (front_is t)
 
-      short_case : (kind n : ℕ) → length s ≤ length word → Ends s → line_row word kind n s ≡ none
+      short_case : (kind n : ℕ) → length s ≤ length word → Ends s → line_row word kind n s ≡ None
       short_case kind n h (at_tab t) = absurd (let k = size_is t in let l = inside s (size s) tab t.ends (λ z. omega arith) in omega arith)
       short_case kind n h (at_lf t) = absurd (not_last t)
       short_case kind n h (nowhere t) = no_line kind n t.lined
 
-      pub no_room : (kind n : ℕ) → length s ≤ length word → line_row word kind n s ≡ none
+      pub no_room : (kind n : ℕ) → length s ≤ length word → line_row word kind n s ≡ None
       no_room kind n h = short_case kind n h (ends s)
 
       module _ (h : length word < length s) where
@@ -123,103 +122,66 @@ module _ (word : List ℕ) (letters : not_letters word ≡ false) where
         rest_is = ap (λ (m : ℕ). drop (m + 1) s) (size_is is_tab)
 
         -- a line that is not ASCII has no row
-        foreign_none : (kind : ℕ) → foreign (before LF s) ≡ true → values_of kind 0 (line_fields (past s)) ≡ none
-        unfolding any
+        foreign_none : (kind : ℕ) → foreign (before LF s) ≡ true → values_of kind 0 (line_fields (past s)) ≡ None
         foreign_none kind f = by (values_of kind 0 (line_fields (past s))) refl
           where
-            in_fields : foreign (before LF s) ≡ any foreign (line_fields (past s))
-            in_fields = any_split (ltb 127) tab refl (before LF s) ∙ ap (any foreign) is_tab.parts ∙ rw (front_is is_tab, ascii)
+            in_fields : foreign (before LF s) ≡ list_any foreign (line_fields (past s))
+            in_fields = any_split (ltb 127) tab refl (before LF s) ∙ ap (list_any foreign) is_tab.parts ∙ rw (front_is is_tab, ascii)
 
-            by : (o : Option (List ℤ)) → values_of kind 0 (line_fields (past s)) ≡ o → o ≡ none
-            by none q = refl
-            by (some l) q = absurd (true≢false (sym f ∙ in_fields ∙ values_ascii kind 0 (line_fields (past s)) l q))
+            by : (o : Option (List ℤ)) → values_of kind 0 (line_fields (past s)) ≡ o → o ≡ None
+            by None q = refl
+            by (Some l) q = absurd (true≢false (sym f ∙ in_fields ∙ values_ascii kind 0 (line_fields (past s)) l q))
 
         length_is : length (before LF s) ≡ index_of LF s
         length_is = length-take-le (index_of LF s) s (first_le (λ x. eqb x LF) s)
 
         -- the values of what follows the word, if there are n fields
         abbrev values : (kind n : ℕ) → Option (List ℤ)
-        values kind n = cond (eqb (length (line_fields (past s))) n) (values_of kind 0 (line_fields (past s))) none
+        values kind n = cond (eqb (length (line_fields (past s))) n) (values_of kind 0 (line_fields (past s))) None
 
         values_are : (kind n : ℕ) → row_after word kind n (before LF s) ≡ values kind n
         unfolding row_after
         values_are kind n = rw (is_tab.parts, front_is is_tab, same_refl word, eqb_suc (length (line_fields (past s))) n)
 
-        by_values : (kind n : ℕ) → line_row word kind n s ≡ cond (ltb 512 (index_of LF s)) none (cond (has LF s) (values kind n) none)
+        by_values : (kind n : ℕ) → line_row word kind n s ≡ cond (ltb 512 (index_of LF s)) None (cond (has LF s) (values kind n) None)
         unfolding line_read bad_bytes
         by_values kind n = rw (values_are kind n, length_is) (by (has LF s) (ltb 512 (index_of LF s)) (foreign (before LF s)) refl)
           where
-            by : (h b f : Bool) → foreign (before LF s) ≡ f → cond (h && not (b || f)) (values kind n) none ≡ cond b none (cond h (values kind n) none)
+            by : (h b f : Bool) → foreign (before LF s) ≡ f → cond (h && not (b || f)) (values kind n) None ≡ cond b None (cond h (values kind n) None)
             by false true f q = refl
             by false false f q = refl
             by true true f q = refl
             by true false false q = refl
             by true false true q = rw (foreign_none kind q) (sym (none_either (eqb (length (line_fields (past s))) n)))
 
-        pub row_after_lem : (kind n : ℕ) → 0 < n → line_row word kind n s ≡ cond (ltb 512 (index_of LF s)) none (row_at kind 0 n rest)
+        pub row_after_lem : (kind n : ℕ) → 0 < n → line_row word kind n s ≡ cond (ltb 512 (index_of LF s)) None (row_at kind 0 n rest)
         row_after_lem kind n due =
             by_values kind n
-            ∙ ap (λ (o : Option (List ℤ)). cond (ltb 512 (index_of LF s)) none o) (ap (λ (b : Bool). cond b (values kind n) none) is_tab.lined ∙ sym (row_line kind 0 n (past s) due) ∙ ap (row_at kind 0 n) rest_is)
+            ∙ ap (λ (o : Option (List ℤ)). cond (ltb 512 (index_of LF s)) None o) (ap (λ (b : Bool). cond b (values kind n) None) is_tab.lined ∙ sym (row_line kind 0 n (past s) due) ∙ ap (row_at kind 0 n) rest_is)
 
-        pub length_after : (kind n : ℕ) (l : List ℤ) → 0 < n → row_at kind 0 n rest ≡ some l → length word + 1 + span n rest ≡ index_of LF s + 1
-        length_after kind n l due e =
-            let k = span_line kind 0 n rest l due e in
-            let m = is_tab.length_is in
-            let q : index_of LF (past s) ≡ index_of LF rest = ap (index_of LF) rest_is in
-            let z = size_is is_tab in
-            omega arith
+        -- a reader of what follows the word, and what it answers
+        module _ (kind n : ℕ) (due : 0 < n) (u : List ℕ) (same_rest : u ≡ rest) where
+          row_is : line_row word kind n s ≡ cond (ltb 512 (index_of LF s)) None (row_at kind 0 n u)
+          row_is = row_after_lem kind n due ∙ ap (λ (x : List ℕ). cond (ltb 512 (index_of LF s)) None (row_at kind 0 n x)) (sym same_rest)
 
--- ---- the reader's answers, at index p of a text
+          pub no_row : row_at kind 0 n u ≡ None → line_row word kind n s ≡ None
+          no_row r = row_is ∙ rw r (none_either (ltb 512 (index_of LF s)))
 
-pub row_zero : {A : Type 0} (o : Option (List A)) (next : ℕ) (row : List A) (r : ℕ) → RowIs o next row r → 0 < next → r ≡ 0 → o ≡ none
-unfolding RowIs
-row_zero none next row r h k e = refl
-row_zero (some l) next row r h k e = absurd (let z = h.0 in omega arith)
+          module _ (l : List ℤ) (r : row_at kind 0 n u ≡ Some l) where
+            past_is : past s ≡ u
+            past_is = rest_is ∙ sym same_rest
 
-pub row_read : {A : Type 0} (o : Option (List A)) (next : ℕ) (row : List A) (r : ℕ) → RowIs o next row r → (r ≡ 0 → ⊥) → (o ≡ some row) × (r ≡ next)
-unfolding RowIs
-row_read none next row r h n = absurd (n h)
-row_read (some l) next row r h n = (ap some (sym h.1), h.0)
+            pub line_past : past_row n u ≡ after LF s
+            line_past = past_line kind 0 n u l due r ∙ ap (after LF) (sym past_is) ∙ after_tab s is_tab
 
-module _ (text word : List ℕ) (p kind n : ℕ) (letters : not_letters word ≡ false) where
-  abbrev line : List ℕ
-  line = drop p text
+            -- the bytes with the LF
+            pub line_length : length s ≡ index_of LF s + 1 + length (past_row n u)
+            line_length =
+                let lined : has LF s ≡ true = is_tab.lined ∙ ap (has LF) past_is ∙ row_lined kind 0 n u l due r in
+                omega (arith, ap length line_past, length-drop (suc (index_of LF s)) s, ltb-true (index_of LF s) (length s) lined)
 
-  abbrev Answer : List ℤ → ℕ → Type 0
-  Answer row r = RowIs (line_row word kind n line) (p + index_of LF line + 1) row r
+            pub line_long : 513 < length s - length (past_row n u) → line_row word kind n s ≡ None
+            line_long h = row_is ∙ rw (lt-ltb 512 (index_of LF s) (omega (arith, line_length)))
 
-  pub answer_other : (row : List ℤ) → 0 < n → same (get_or (fields line) 0 []) word ≡ false → Answer row 0
-  answer_other row h e = row_none _ _ row (other_word word letters line kind n h e)
-
-  module _ (e : same (get_or (fields line) 0 []) word ≡ true) where
-    pub answer_short : (row : List ℤ) → length text - p ≤ length word → Answer row 0
-    answer_short row h = row_none _ _ row (no_room word letters line e kind n (rw (length-drop p text) h))
-
-    module _ (h : length word < length text - p) (some-due : 0 < n) (row : List ℤ) (r : ℕ)
-        (found : RowIs (row_at kind 0 n (drop (p + length word + 1) text)) (p + length word + 1 + span n (drop (p + length word + 1) text)) row r) where
-      longer : length word < length line
-      longer = rw (length-drop p text) h
-
-      rest_at : drop (length word + 1) line ≡ drop (p + length word + 1) text
-      rest_at = let z : p + (length word + 1) ≡ p + length word + 1 = omega arith in drop-drop (length word + 1) p text ∙ ap (λ (m : ℕ). drop m text) z
-
-      row_is : line_row word kind n line ≡ cond (ltb 512 (index_of LF line)) none (row_at kind 0 n (drop (p + length word + 1) text))
-      row_is = row_after_lem word letters line e longer kind n some-due ∙ ap (λ (x : List ℕ). cond (ltb 512 (index_of LF line)) none (row_at kind 0 n x)) rest_at
-
-      pub answer_row : r ≡ 0 → Answer row 0
-      answer_row z = row_none _ _ row (row_is ∙ rw (row_zero _ _ row r found (omega arith) z) (none_either (ltb 512 (index_of LF line))))
-
-      next_is : (r ≡ 0 → ⊥) → r ≡ p + index_of LF line + 1
-      next_is z =
-          let (k, m) = row_read _ _ row r found z in
-          let q = length_after word letters line e longer kind n row some-due (rw rest_at k) in
-          let t : span n (drop (length word + 1) line) ≡ span n (drop (p + length word + 1) text) = ap (span n) rest_at in
-          omega arith
-
-      pub answer_long : (r ≡ 0 → ⊥) → p + 513 < r → Answer row 0
-      answer_long z l = let k = next_is z in row_none _ _ row (row_is ∙ rw (lt-ltb 512 (index_of LF line) (omega arith)))
-
-      pub answer_good : (r ≡ 0 → ⊥) → r ≤ p + 513 → Answer row r
-      answer_good z l =
-          let k = next_is z in
-          row_some _ _ row _ (row_is ∙ rw (le-ltb 512 (index_of LF line) (omega arith)) (row_read _ _ row r found z).0) k
+            pub line_good : length s - length (past_row n u) ≤ 513 → line_row word kind n s ≡ Some l
+            line_good h = row_is ∙ rw (le-ltb 512 (index_of LF s) (omega (arith, line_length))) r

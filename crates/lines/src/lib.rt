@@ -1,126 +1,92 @@
 // The lines of a month's text, each read in one pass where it stands.
 #![tactic(auto)]
 
-ghost use Rattle.std.specs.Prelude.{◌≡◌, false, map, ◌+◌, ◌-◌, ◌≤◌, ◌<◌, length, drop};
-ghost use Rattle.numbers.specs.Lists.{any};
+ghost use Rattle.std.specs.Prelude.{◌≡◌, false, true, ◌+◌, ◌-◌, ◌≤◌, ◌<◌, length, MatchOption, if◌then◌else◌};
 ghost use Rattle.numbers.specs.Signed.{◌⁺};
 ghost use Rattle.methodology.specs.Text.{LF, numbers_after, account_of};
-ghost use Rattle.methodology.specs.Lines.{index_of, line_read};
-ghost use Rattle.fields.specs.Fields.{RowIs};
-ghost use Rattle.lines.specs.Forms.{not_letters, line_row, is_negative, AccountIs};
+ghost use Rattle.methodology.specs.Lines.{after, line_read};
+ghost use Rattle.lines.specs.Forms.{not_letters, line_row, is_negative, account_line};
 
-use fields::{field, row_at, same};
+use fields::{field, row, same};
+use methodology::Heading;
 
-// What reading several lines comes to: the index after them, or the first bad one, counted from 0.
-#[derive(Clone, Copy)]
-pub enum Lines {
-    Read(usize),
-    Stopped(usize),
+// What an account's line brings beside its NPVs.
+#[derive(Clone, Copy, Debug, PartialEq, Eq)]
+pub struct AccountTerms {
+    pub heading: Heading,
+    pub margin: u64,
+    pub extra: u64,
 }
 
-// Reads the line at index p, its word and then as many values as the row has places, of which the one in `place` is a kind. It answers
-// the index after the LF, or 0 where the line is not so.
-fn line_at(text: &[u8], p: usize, word: &[u8], place: usize, row: &mut [i64]) -> usize
-    requires p_in_bounds { p ≤ length text.now }
+// "At most 512 bytes before it".
+const MOST_BYTES: usize = 512;
+
+// Reads the line that a text begins with, its word and then as many values as the row has places, of which the one in `place` is a kind.
+// It answers the rest after the LF, or nothing where the line is not so.
+fn line<'a>(text: &'a [u8], word: &[u8], place: usize, values: &mut [i64]) -> Option<&'a [u8]>
     requires word_value { not_letters word.now ≡ false }
-    requires row_nonzero { 0 < length row.old }
-    ensures row_is { RowIs (line_row word.now place (length row.old) (drop p text.now)) (p + index_of LF (drop p text.now) + 1) row.new result }
-    ensures upper_bound { result ≤ length text.now }
+    requires values_nonzero { 0 < length values.old }
+    ensures { let read = line_row word.now place (length values.old) text.now in MatchOption result (read ≡ None) (λ rest. (read ≡ Some values.new) × (rest.now ≡ after LF text.now)) }
 {
-    let first = field(&text[p..]);
-    if !same(first, word) {
-        return 0;
+    if !same(field(text), word) || text.len() <= word.len() {
+        return None;
     }
-    if text.len() - p <= word.len() {
-        return 0;
+    let rest = row(&text[word.len() + 1..], place, values)?;
+    if text.len() - rest.len() > MOST_BYTES + 1 {
+        return None;
     }
-    let next = row_at(text, p + word.len() + 1, place, row);
-    if next == 0 {
-        return 0;
-    }
-    if p + 513 < next {
-        return 0;
-    }
-    next
+    Some(rest)
 }
 
-// Whether any of the numbers is negative.
-fn any_negative(signed: &[i64]) -> bool
-    ensures { result ≡ any is_negative signed.now }
+// A number that may have no minus.
+fn natural(z: i64) -> Option<u64>
+    ensures { result ≡ (if is_negative z then None else Some (z ⁺)) }
 {
-    let mut j: usize = 0;
-    while j < signed.len() {
-        let z = signed[j];
-        if z < 0 {
-            return true;
-        }
-        j += 1;
-    }
-    false
+    u64::try_from(z).ok()
 }
 
-// Copies numbers that are not negative into a row of numbers without a sign.
-fn copy_naturals(signed: &[i64], row: &mut [u64])
-    requires signed_len { length signed.now ≡ length row.old }
-    requires signed_value { any is_negative signed.now ≡ false }
-    ensures { row.new ≡ map (λ z. z ⁺) signed.now }
-{
-    let mut j: usize = 0;
-    while j < row.len() {
-        let z = signed[j];
-        row[j] = z as u64;
-        j += 1;
-    }
-}
-
-// `numbers_at`, with a row for the signed numbers.
-fn numbers_by(text: &[u8], p: usize, word: &[u8], signed: &mut [i64], row: &mut [u64]) -> usize
-    requires p_in_bounds { p ≤ length text.now }
+// "The first word is compared whole": a line of a word and N numbers, and the rest after its LF.
+pub fn numbers<'a, const N: usize>(text: &'a [u8], word: &[u8]) -> Option<([u64; N], &'a [u8])>
     requires word_value { not_letters word.now ≡ false }
-    requires row_nonzero { (0 < length row.old) × (length signed.old ≡ length row.old) }
-    ensures row_is { RowIs (line_read (numbers_after word.now (length row.old)) (drop p text.now)) (p + index_of LF (drop p text.now) + 1) row.new result }
-    ensures upper_bound { result ≤ length text.now }
-    ensures row_unchanged { result ≡ 0 → row.new ≡ row.old }
+    requires count_nonzero { 0 < N }
+    ensures { let read = line_read (numbers_after word.now N) text.now in MatchOption result (read ≡ None) (λ r. (read ≡ Some r.0) × (r.1.now ≡ after LF text.now)) }
 {
-    let next = line_at(text, p, word, row.len(), signed); // past the last place: no value is a kind
-    if next == 0 {
-        return 0;
+    let mut values = [0i64; N];
+    let rest = line(text, word, N, &mut values)?; // past the last place: no value is a kind
+    let mut numbers = [0u64; N];
+    for j in 0..N {
+        numbers[j] = natural(values[j])?;
     }
-    if any_negative(signed) {
-        return 0;
-    }
-    copy_naturals(signed, row);
-    next
+    Some((numbers, rest))
 }
 
-// Reads the line at index p, its word and then as many numbers as the row has places, at most 8. It answers the index after the LF, or 0
-// where the line is not so, and the row is then as before.
-pub fn numbers_at(text: &[u8], p: usize, word: &[u8], row: &mut [u64]) -> usize
-    requires p_in_bounds { p ≤ length text.now }
-    requires word_value { not_letters word.now ≡ false }
-    requires row_nonzero { (0 < length row.old) × (length row.old ≤ 8) }
-    ensures row_is { RowIs (line_read (numbers_after word.now (length row.old)) (drop p text.now)) (p + index_of LF (drop p text.now) + 1) row.new result }
-    ensures upper_bound { result ≤ length text.now }
-    ensures row_unchanged { result ≡ 0 → row.new ≡ row.old }
+// "member, account, kind, base, margin, extra, stress 1 to k": an account's line, and the rest after its LF. Its base and its stresses go
+// into npvs.
+pub fn account<'a>(text: &'a [u8], npvs: &mut [i64]) -> Option<(AccountTerms, &'a [u8])>
+    requires { (0 < length npvs.old) × (length npvs.old ≤ 17) }
+    ensures { let read = line_read (account_of (length npvs.old - 1)) text.now in MatchOption result (read ≡ None) (λ r. (read ≡ Some (account_line r.0 npvs.new)) × (r.1.now ≡ after LF text.now)) }
 {
-    let mut signed = [0i64; 8];
-    let n = row.len();
-    numbers_by(text, p, word, &mut signed[..n], row)
-}
-
-// "member, account, kind, base, margin, extra, stress 1 to k": an account's line, as a row of k + 6 numbers.
-pub fn account_at(text: &[u8], p: usize, row: &mut [i64]) -> usize
-    requires p_in_bounds { p ≤ length text.now }
-    requires in_bounds { 6 < length row.old }
-    ensures account_is { AccountIs (line_read (account_of (length row.old - 6)) (drop p text.now)) (p + index_of LF (drop p text.now) + 1) row.new result }
-    ensures upper_bound { result ≤ length text.now }
-{
-    let next = line_at(text, p, b"acct", 2, row); // the kind stands in place 2
-    if next == 0 {
-        return 0;
-    }
-    if row[0] < 0 || row[1] < 0 || row[4] < 0 || row[5] < 0 {
-        return 0;
-    }
-    next
+    let mut places = [0i64; 22]; // for 16 stresses
+    let values = &mut places[..npvs.len() + 5];
+    let rest = line(text, b"acct", 2, values)?; // the kind stands in place 2
+    let member = natural(values[0])?;
+    let number = natural(values[1])?;
+    let kind = values[2] as u64; // never negative
+    let margin = natural(values[4])?;
+    let extra = natural(values[5])?;
+    npvs[0] = values[3];
+    npvs[1..].copy_from_slice(&values[6..]);
+    let heading = Heading {
+        member,
+        number,
+        kind,
+    };
+    Some((
+        AccountTerms {
+            heading,
+            margin,
+            extra,
+        },
+        rest,
+    ))
 }

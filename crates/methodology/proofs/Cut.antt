@@ -11,6 +11,7 @@ use lib.Seq.{take_all, take-take, length-take-le}
 use borrow.Author.Tests.{lt-ltb, ltb-true, ltb-false}
 use Rattle.numbers.specs.Lists.{first_where}
 use Rattle.numbers.proofs.Lists.{drop_take, first_le}
+use Rattle.methodology.specs.declared.Refusal.TheVariants.{BadLine}
 use Rattle.methodology.specs.Text.{LF, same, split, bad_bytes, refused_line, Expected, period, member, day, account, after_end, Read, ends, goes_on, bad, read_line, at_end, followed_by, report_from, report_of}
 use Rattle.methodology.specs.Lines.{index_of, has, before, after}
 use Rattle.methodology.proofs.Splits.{line_there, line_missing}
@@ -47,7 +48,7 @@ module _ (m : ℕ) (s : List ℕ) (longer : m < length s) (near : index_of LF s 
 
 -- ---- a line that no LF ends in time
 
-unended : (e : Expected) (i : ℕ) (rest : List ℕ) → 0 < length rest → at_end e i rest ≡ refused_line 9 i
+unended : (e : Expected) (i : ℕ) (rest : List ℕ) → 0 < length rest → at_end e i rest ≡ refused_line BadLine i
 unfolding at_end same
 unended period i rest h = refl
 unended (member o) i rest h = refl
@@ -56,14 +57,14 @@ unended (account g d at count used) i rest h = refl
 unended (after_end g at) i [] h = absurd (omega arith)
 unended (after_end g at) i (x ∷ rest) h = refl
 
-pub too_long : (i : ℕ) (s : List ℕ) (e : Expected) → a_line ≤ index_of LF s → report_from i (split LF s) e ≡ refused_line 9 i
+pub too_long : (i : ℕ) (s : List ℕ) (e : Expected) → a_line ≤ index_of LF s → report_from i (split LF s) e ≡ refused_line BadLine i
 unfolding followed_by bad_bytes
 too_long i s e h = by (has LF s) refl
   where
     long : length (before LF s) ≡ index_of LF s
     long = length-take-le (index_of LF s) s (first_le (λ x. eqb x LF) s)
 
-    by : (t : Bool) → has LF s ≡ t → report_from i (split LF s) e ≡ refused_line 9 i
+    by : (t : Bool) → has LF s ≡ t → report_from i (split LF s) e ≡ refused_line BadLine i
     by true k = line_there i s e k ∙ rw (lt-ltb 512 (length (before LF s)) (omega (arith, long)))
     by false k = line_missing i s e k ∙ unended e i (before LF s) (omega (arith, long))
 

@@ -3,18 +3,18 @@
 use mathlib.Core.Path.{◌≡◌, refl}
 use mathlib.Core.Bool.{not, ◌||◌}
 use mathlib.Core.List.{List, [], ◌∷◌, ◌++◌}
-use mathlib.Core.Option.{Option, none, some}
+use Rattle.std.specs.Prelude.{Option, None, Some}
 use Prim.Native.Nat.{ℕ, ◌+◌, ◌*◌, ◌≤◌, ◌<◌}
 use native.Mathlib.Omega.{arith}
 use lib.Dec.{ltb, eqb}
 use lib.ListN.{length, get_or, length-append}
 use borrow.Author.Tests.{ltb-false, eqb-false}
 use Rattle.numbers.proofs.Tests.{neither}
-use Rattle.methodology.specs.declared.Refusal.{Refusal}
-use Rattle.methodology.specs.declared.Refusal.TheVariants.{Clear, Row, RowAt}
+use Rattle.std.specs.Prelude.{Ok, Err}
+use Rattle.methodology.specs.declared.Refusal.TheVariants.{OutOfTurn, BadDayNumber, BadLengths}
 use Rattle.methodology.specs.declared.Opening.{Opening}
 use Rattle.methodology.specs.Account.{DayInput}
-use Rattle.methodology.specs.Refusals.{is_open, n_outside, k_outside, count_outside, bad_input, bad_output, bad_day_number, day_rows, before_figures, day_refusal}
+use Rattle.methodology.specs.Refusals.{Verdict, clear, is_open, n_outside, k_outside, count_outside, bad_input, bad_output, bad_day_number, day_rows, before_figures, day_refusal}
 use Rattle.methodology.specs.Register.{Call, Register, start, last_number, refusal, accept, step}
 use Rattle.methodology.specs.Text.{bytes, same, AccountLine, Expected, period, member, day, account, after_end, Read, ends, goes_on, read_period, opened, read_member, read_day, sized, with_account, read_account, read_line}
 use Rattle.methodology.proofs.Passed.{inside, passed, passed_rows, either, by_test, number_rises}
@@ -52,23 +52,22 @@ enough_line m (after_end g at) k = k
 
 after_period : (m l i : ℕ) (read : Option (List ℕ)) → l < a_line → Enough (l + 1 + m) period → EnoughAfter m (read_period i read)
 unfolding read_period
-after_period m l i none h k = tt
-after_period m l i (some ns) h k =
+after_period m l i None h k = tt
+after_period m l i (Some ns) h k =
     by_test (EnoughAfter m) (n_outside (get_or ns 0 0) || k_outside (get_or ns 1 0)) _ _ (λ e. tt)
     (λ e. let w = inside _ _ (get_or ns 0 0) (neither (n_outside (get_or ns 0 0)) _ e).0 in omega arith)
 
-after_opened : (m : ℕ) (x : Refusal) (o : Opening) → a_line + 32 * a_day ≤ m → EnoughAfter m (opened x o)
+after_opened : (m : ℕ) (x : Verdict) (o : Opening) → a_line + 32 * a_day ≤ m → EnoughAfter m (opened x o)
 unfolding opened step accept
-after_opened m Clear o h =
+after_opened m (Ok _) o h =
     let none_yet : last_number (step start (Call.opening o)).days ≡ 0 = either (λ (g : Register). last_number g.days ≡ 0) (refusal start (Call.opening o)) _ _ (λ e. refl) refl in
     omega arith
-after_opened m (Row number) o h = tt
-after_opened m (RowAt number index) o h = tt
+after_opened m (Err row) o h = tt
 
 after_member : (m l : ℕ) (o : Opening) (i : ℕ) (read : Option (List ℕ)) → l < a_line → Enough (l + 1 + m) (member o) → EnoughAfter m (read_member o i read)
 unfolding read_member
-after_member m l o i none h k = tt
-after_member m l o i (some ns) h k =
+after_member m l o i None h k = tt
+after_member m l o i (Some ns) h k =
     let groups = o.groups ++ (get_or ns 1 0 ∷ []) in
     let longer = length-append o.groups (get_or ns 1 0 ∷ []) in
     by_test (EnoughAfter m) (eqb (get_or ns 0 0) (length groups)) _ _
@@ -77,33 +76,32 @@ after_member m l o i (some ns) h k =
 
 after_day : (m l : ℕ) (g : Register) (i : ℕ) (read : Option (List ℕ)) → l < a_line → Enough (l + 1 + m) (day g) → EnoughAfter m (read_day g i read)
 unfolding read_day
-after_day m l g i none h k = tt
-after_day m l g i (some ns) h k = by_test (EnoughAfter m) (count_outside (get_or ns 1 0)) _ _ (λ e. tt) (λ e. omega arith)
+after_day m l g i None h k = tt
+after_day m l g i (Some ns) h k = by_test (EnoughAfter m) (count_outside (get_or ns 1 0)) _ _ (λ e. tt) (λ e. omega arith)
 
 -- an accepted day's number is above the last, and at most 31
-pub rises : (g : Register) (d : DayInput) (room : ℕ) → refusal g (Call.day d room) ≡ Clear → (last_number g.days < d.terms.number) × (d.terms.number ≤ 31)
+pub rises : (g : Register) (d : DayInput) (room : ℕ) → refusal g (Call.day d room) ≡ clear → (last_number g.days < d.terms.number) × (d.terms.number ≤ 31)
 unfolding refusal day_refusal before_figures day_rows
 rises g d room e =
     let (r₁, _) = passed_rows (before_figures g.status g.held (last_number g.days) d room) _ e in
-    let (_, r₂) = passed 2 (not (is_open g.status)) _ r₁ in
-    let (_, r₃) = passed 4 (bad_output g.held room) _ r₂ in
-    let (_, r₄) = passed 4 (bad_input g.held d) _ r₃ in
-    let (e3, _) = passed 3 (bad_day_number (last_number g.days) d.terms.number) _ r₄ in
+    let (_, r₂) = passed OutOfTurn (not (is_open g.status)) _ r₁ in
+    let (_, r₃) = passed BadLengths (bad_output g.held room) _ r₂ in
+    let (_, r₄) = passed BadLengths (bad_input g.held d) _ r₃ in
+    let (e3, _) = passed BadDayNumber (bad_day_number (last_number g.days) d.terms.number) _ r₄ in
     let (high, above) = number_rises (last_number g.days) d.terms.number e3 in
     (above, high)
 
-after_sized : (m : ℕ) (x : Refusal) (g : Register) (d : DayInput) (i : ℕ) → refusal g (Call.day d (5 * g.held.n)) ≡ x
+after_sized : (m : ℕ) (x : Verdict) (g : Register) (d : DayInput) (i : ℕ) → refusal g (Call.day d (5 * g.held.n)) ≡ x
     → 32 * a_day ≤ m + 65536 + a_day * last_number g.days → EnoughAfter m (sized x g d i)
 unfolding sized step accept
-after_sized m Clear g d i e h = let r = rises g d _ e in rw e (omega arith)
-after_sized m (Row number) g d i e h = tt
-after_sized m (RowAt number index) g d i e h = tt
+after_sized m (Ok _) g d i e h = let r = rises g d _ e in rw e (omega arith)
+after_sized m (Err row) g d i e h = tt
 
 after_account : (m : ℕ) (g : Register) (d : DayInput) (at count used i : ℕ) (read : Option AccountLine) → Enough m (account g d at count used)
     → EnoughAfter m (read_account g d at count used i read)
 unfolding read_account
-after_account m g d at count used i none k = tt
-after_account m g d at count used i (some a) k =
+after_account m g d at count used i None k = tt
+after_account m g d at count used i (Some a) k =
     by_test (EnoughAfter m) (eqb (length (with_account d a).headings) count) _ _ (λ all. after_sized m _ g (with_account d a) at refl (omega arith)) (λ more. k)
 
 pub after_line : (m : ℕ) (e : Expected) (i : ℕ) (l : List ℕ) → length l < a_line → Enough (length l + 1 + m) e → EnoughAfter m (read_line e i l)

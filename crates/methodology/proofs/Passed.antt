@@ -12,53 +12,47 @@ use Rattle.methodology.specs.declared.Status.{Status}
 use Rattle.methodology.specs.declared.Status.TheVariants.{Open}
 use Rattle.methodology.specs.declared.Opening.{Opening}
 use Rattle.methodology.specs.declared.Refusal.{Refusal}
-use Rattle.methodology.specs.declared.Refusal.TheVariants.{Clear, Row, RowAt}
+use Rattle.std.specs.Prelude.{Ok, Err}
+use Rattle.methodology.specs.declared.Refusal.TheVariants.{NoLoss}
 use Rattle.methodology.specs.Account.{DayInput, accounts}
 use Rattle.methodology.specs.Day.{total}
-use Rattle.methodology.specs.Refusals.{row◌when◌else◌, row◌at◌when◌else◌, rows_of◌else◌, outside, bad_day_number, before_figures, day_refusal}
+use Rattle.methodology.specs.Refusals.{Verdict, clear, row◌when◌else◌, rows_of◌else◌, outside, bad_day_number, before_figures, day_refusal}
 use Rattle.methodology.specs.Register.{Call, Register, refusal, accept, if_accepted, step}
 
-pub passed : (number : ℕ) (b : Bool) (rest : Refusal) → row number when b else rest ≡ Clear → (b ≡ false) × (rest ≡ Clear)
+pub passed : (met : Refusal) (b : Bool) (rest : Verdict) → row met when b else rest ≡ clear → (b ≡ false) × (rest ≡ clear)
 unfolding row◌when◌else◌
-passed number true rest e = let z : ◌≡◌ {A = ℕ} 0 1 = cc in absurd (omega arith)
-passed number false rest e = (refl, e)
+passed met true rest e = let z : ◌≡◌ {A = ℕ} 0 1 = cc in absurd (omega arith)
+passed met false rest e = (refl, e)
 
-pub passed_at : (number index : ℕ) (b : Bool) (rest : Refusal) → row number at index when b else rest ≡ Clear → (b ≡ false) × (rest ≡ Clear)
-unfolding row◌at◌when◌else◌
-passed_at number index true rest e = let z : ◌≡◌ {A = ℕ} 0 1 = cc in absurd (omega arith)
-passed_at number index false rest e = (refl, e)
-
-pub passed_rows : (rows rest : Refusal) → rows_of rows else rest ≡ Clear → (rows ≡ Clear) × (rest ≡ Clear)
+pub passed_rows : (rows rest : Verdict) → rows_of rows else rest ≡ clear → (rows ≡ clear) × (rest ≡ clear)
 unfolding rows_of◌else◌
-passed_rows Clear rest e = (refl, e)
-passed_rows (Row number) rest e = let z : ◌≡◌ {A = ℕ} 0 1 = cc in absurd (omega arith)
-passed_rows (RowAt number index) rest e = let z : ◌≡◌ {A = ℕ} 0 1 = cc in absurd (omega arith)
+passed_rows (Ok _) rest e = (refl, e)
+passed_rows (Err met) rest e = let z : ◌≡◌ {A = ℕ} 0 1 = cc in absurd (omega arith)
 
 -- a day that no row refuses: none before its figures does, and row 7 leaves a loss
-pub loss_stands : (s : Status) (o : Opening) (last : ℕ) (d : DayInput) (room : ℕ) → day_refusal s o last d room ≡ Clear
-    → (before_figures s o last d room ≡ Clear) × (0 < total o (accounts o.k d))
+pub loss_stands : (s : Status) (o : Opening) (last : ℕ) (d : DayInput) (room : ℕ) → day_refusal s o last d room ≡ clear
+    → (before_figures s o last d room ≡ clear) × (0 < total o (accounts o.k d))
 unfolding day_refusal
 loss_stands s o last d room e =
     let (early, rest) = passed_rows (before_figures s o last d room) _ e in
-    let (some, _) = passed 7 (eqb (total o (accounts o.k d)) 0) Clear rest in
+    let (some, _) = passed NoLoss (eqb (total o (accounts o.k d)) 0) clear rest in
     let positive = eqb-false (total o (accounts o.k d)) 0 some in
     (early, omega arith)
 
 -- the register after a call that no row refuses
-pub step_clear : (g : Register) (c : Call) → refusal g c ≡ Clear → step g c ≡ accept g c
+pub step_clear : (g : Register) (c : Call) → refusal g c ≡ clear → step g c ≡ accept g c
 unfolding step
 step_clear g c e = rw e
 
 -- an accepted opening is all that the register holds after it
-pub opened_anew : (g : Register) (o : Opening) → refusal g (Call.opening o) ≡ Clear → step g (Call.opening o) ≡ record { status = Open; held = o; days = [] }
+pub opened_anew : (g : Register) (o : Opening) → refusal g (Call.opening o) ≡ clear → step g (Call.opening o) ≡ record { status = Open; held = o; days = [] }
 unfolding accept
 opened_anew g o e = step_clear g (Call.opening o) e
 
 -- what holds of both ways holds of the one that is taken
-pub either : {A : Type 0} (P : A → Type 0) (x : Refusal) (a b : A) → (x ≡ Clear → P a) → P b → P (if_accepted x a b)
-either P Clear a b f h = f refl
-either P (Row number) a b f h = h
-either P (RowAt number index) a b f h = h
+pub either : {A : Type 0} (P : A → Type 0) (x : Verdict) (a b : A) → (x ≡ clear → P a) → P b → P (if_accepted x a b)
+either P (Ok _) a b f h = f refl
+either P (Err met) a b f h = h
 
 pub by_test : {A : Type 0} (P : A → Type 0) (b : Bool) (x y : A) → (b ≡ true → P x) → (b ≡ false → P y) → P (cond b x y)
 by_test P true x y f g = f refl

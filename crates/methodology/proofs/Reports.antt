@@ -3,26 +3,27 @@
 use mathlib.Core.Path.{◌≡◌, refl, ap, subst, ◌∙◌}
 use mathlib.Core.Bool.{Bool, true, false, not, ◌&&◌, ◌||◌}
 use mathlib.Core.List.{List, [], ◌∷◌, ◌++◌}
-use mathlib.Core.Option.{Option, none, some}
+use Rattle.std.specs.Prelude.{Option, None, Some, Ok, Err}
 use Prim.Native.Nat.{ℕ, suc, ◌+◌, ◌*◌, ◌≤◌}
 use native.Mathlib.Omega.{arith}
 use lib.Dec.{ltb, eqb}
 use lib.ListN.{length, get_or, take, drop, length-take}
 use lib.Seq.{get_or-drop}
 use borrow.Author.Tests.{eq-eqb, ltb-true, ltb-false}
-use Rattle.numbers.specs.Lists.{any}
+use Rattle.std.specs.List.{list_any}
 use Rattle.numbers.proofs.Tests.{neither}
 use Rattle.methodology.specs.declared.Status.TheVariants.{Open}
 use Rattle.methodology.specs.declared.Refusal.{Refusal}
-use Rattle.methodology.specs.declared.Refusal.TheVariants.{Clear, Row, RowAt}
+use Rattle.methodology.specs.declared.Refusal.TheVariants.{BadOpening, BadLengths, BadLine}
 use Rattle.methodology.specs.declared.Opening.{Opening}
 use Rattle.methodology.specs.Account.{with_groups, DayInput}
-use Rattle.methodology.specs.Refusals.{row◌when◌else◌, outside, n_outside, k_outside, count_outside, closing_refusal}
+use Rattle.methodology.specs.Numbers.{row_index}
+use Rattle.methodology.specs.Refusals.{Verdict, clear, row◌when◌else◌, outside, n_outside, k_outside, count_outside, closing_refusal}
 use Rattle.methodology.specs.Register.{Call, Register, start, refusal, accept, step, returned, written}
-use Rattle.methodology.specs.Text.{LF, bytes, same, onto, split, fields, is_digit, value_from, number_of, also, every_field, numbers_after, bad_bytes, AccountLine, refused_line, day_lines, fund_lines, Expected, period, member, day, account, after_end, Read, bad, read_period, opened, read_member, read_day, sized, with_account, read_account, read_line, closed, at_end, followed_by, report_from, report_of}
+use Rattle.methodology.specs.Text.{LF, bytes, same, onto, split, fields, is_digit, value_from, number_of, also, every_field, numbers_after, bad_bytes, AccountLine, refused_line, line_named, day_lines, fund_lines, Expected, period, member, day, account, after_end, Read, bad, read_period, opened, read_member, read_day, sized, with_account, read_account, read_line, closed, at_end, followed_by, report_from, report_of}
 use Rattle.methodology.specs.Lines.{index_of, before}
 use Rattle.methodology.proofs.Passed.{step_clear, inside, by_test}
-use Rattle.methodology.proofs.RowLimits.{occurs, RowFew, refusal_few}
+use Rattle.methodology.proofs.RowLimits.{Few, RowFew, refusal_few}
 use Rattle.methodology.proofs.Splits.{split_first}
 use Rattle.methodology.proofs.Cut.{before_same, too_long, cut}
 
@@ -43,30 +44,35 @@ closed_lines g call = fund_lines g.held.n (returned g call) (written g call)
 
 -- the rest of a report from register g on; no refusal names a line after `last`
 pub data Rest (last : ℕ) : Register → List ℕ → Type 0 where
-  a_day_lem : {g : Register} {rest : List ℕ} (d : DayInput) → refusal g (day_call g d) ≡ Clear → Rest last (step g (day_call g d)) rest
+  a_day_lem : {g : Register} {rest : List ℕ} (d : DayInput) → refusal g (day_call g d) ≡ clear → Rest last (step g (day_call g d)) rest
       → Rest last g (sized_lines (step g (day_call g d)) d (day_call g d) ++ rest)
-  a_fund : {g : Register} → refusal g (closing_call g) ≡ Clear → Rest last g (closed_lines (step g (closing_call g)) (closing_call g))
-  a_refusal : {g : Register} (number line : ℕ) → occurs number ≡ true → line ≤ last → Rest last g (refused_line number line)
+  a_fund : {g : Register} → refusal g (closing_call g) ≡ clear → Rest last g (closed_lines (step g (closing_call g)) (closing_call g))
+  a_refusal : {g : Register} (met : Refusal) (line : ℕ) → line ≤ last → Rest last g (refused_line met line)
 
 -- a report of n members: it is refused before a period is open, or goes on from there
 pub data Report (n last : ℕ) : List ℕ → Type 0 where
-  a_period : {s : List ℕ} (o : Opening) → o.n ≡ n → o.n ≤ 32 → refusal start (Call.opening o) ≡ Clear
+  a_period : {s : List ℕ} (o : Opening) → o.n ≡ n → o.n ≤ 32 → refusal start (Call.opening o) ≡ clear
       → Rest last (step start (Call.opening o)) s → Report n last s
-  no_period : (number line : ℕ) → occurs number ≡ true → line ≤ last → Report n last (refused_line number line)
+  no_period : (met : Refusal) (line : ℕ) → line ≤ last → Report n last (refused_line met line)
 
 -- the status that an accepted call leaves
-status_is : (g : Register) (c : Call) → refusal g c ≡ Clear → (step g c).status ≡ (accept g c).status
+status_is : (g : Register) (c : Call) → refusal g c ≡ clear → (step g c).status ≡ (accept g c).status
 status_is g c e = ap (λ (x : Register). x.status) (step_clear g c e)
 
 -- the closing of a text is not refused: its period is open, and its output 3n long
-pub closing_clear : (g : Register) → g.status ≡ Open → refusal g (closing_call g) ≡ Clear
+pub closing_clear : (g : Register) → g.status ≡ Open → refusal g (closing_call g) ≡ clear
 unfolding refusal closing_refusal row◌when◌else◌
 closing_clear g is = rw (is, eq-eqb (3 * g.held.n) (3 * g.held.n) refl)
 
+-- the line that a refused day names is at most 257 after the day line
+named_few : (last at : ℕ) (index : Option ℕ) → Few index → at + 257 ≤ last → line_named at index ≤ last
+named_few last at None few h = omega arith
+named_few last at (Some index) few h = omega arith
+
 -- a line's first number, where it is read
 abbrev FirstIs : (n : ℕ) → Option (List ℕ) → Type 0
-FirstIs n none = Unit {0}
-FirstIs n (some ns) = get_or ns 0 0 ≡ n
+FirstIs n None = Unit {0}
+FirstIs n (Some ns) = get_or ns 0 0 ≡ n
 
 -- ---- what is known where a line is expected, and what its report is from there on
 
@@ -88,12 +94,12 @@ module _ (n last : ℕ) where
   abbrev Goes : (Expected → List ℕ) → Type 0
   Goes rest = (e : Expected) → Ready e → From e (rest e)
 
-  refused_from : (e : Expected) (number line : ℕ) → occurs number ≡ true → line ≤ last → From e (refused_line number line)
-  refused_from period number line h k = no_period number line h k
-  refused_from (member o) number line h k = no_period number line h k
-  refused_from (day g) number line h k = a_refusal number line h k
-  refused_from (account g d at count used) number line h k = a_refusal number line h k
-  refused_from (after_end g at) number line h k = a_refusal number line h k
+  refused_from : (e : Expected) (met : Refusal) (line : ℕ) → line ≤ last → From e (refused_line met line)
+  refused_from period met line k = no_period met line k
+  refused_from (member o) met line k = no_period met line k
+  refused_from (day g) met line k = a_refusal met line k
+  refused_from (account g d at count used) met line k = a_refusal met line k
+  refused_from (after_end g at) met line k = a_refusal met line k
 
   -- ---- a line
 
@@ -104,18 +110,17 @@ module _ (n last : ℕ) where
 
     line_9 : (e : Expected) → Prints e (bad i)
     unfolding followed_by
-    line_9 e = refused_from e 9 i refl (omega arith)
+    line_9 e = refused_from e BadLine i (omega arith)
 
-    by_opened : (x : Refusal) (o : Opening) → refusal start (Call.opening o) ≡ x → RowFew x → Ready (member o) → Report n last (followed_by (opened x o) rest)
+    by_opened : (x : Verdict) (o : Opening) → refusal start (Call.opening o) ≡ x → RowFew x → Ready (member o) → Report n last (followed_by (opened x o) rest)
     unfolding opened followed_by accept
-    by_opened Clear o e few r = a_period o r.0 r.1 e (goes (day (step start (Call.opening o))) (status_is start (Call.opening o) e))
-    by_opened (Row number) o e few r = no_period number 1 few (omega arith)
-    by_opened (RowAt number index) o e few r = no_period number 1 few.0 (omega arith)
+    by_opened (Ok _) o e few r = a_period o r.0 r.1 e (goes (day (step start (Call.opening o))) (status_is start (Call.opening o) e))
+    by_opened (Err met) o e few r = no_period met 1 (omega arith)
 
     by_member : (o : Opening) (read : Option (List ℕ)) → Ready (member o) → Prints (member o) (read_member o i read)
     unfolding read_member followed_by
-    by_member o none r = line_9 (member o)
-    by_member o (some ns) r =
+    by_member o None r = line_9 (member o)
+    by_member o (Some ns) r =
         let P = Prints (member o) in
         let o' = with_groups o (o.groups ++ (get_or ns 1 0 ∷ [])) in
         let last_one = by_opened _ o' refl (refusal_few start (Call.opening o')) r in
@@ -125,22 +130,21 @@ module _ (n last : ℕ) where
 
     by_day : (g : Register) (read : Option (List ℕ)) → Ready (day g) → Prints (day g) (read_day g i read)
     unfolding read_day followed_by
-    by_day g none r = line_9 (day g)
-    by_day g (some ns) r =
-        by_test (Prints (day g)) (count_outside (get_or ns 1 0)) _ _ (λ e. a_refusal 4 i refl (omega arith)) (λ e. goes (account g _ i _ 0) (r, near))
+    by_day g None r = line_9 (day g)
+    by_day g (Some ns) r =
+        by_test (Prints (day g)) (count_outside (get_or ns 1 0)) _ _ (λ e. a_refusal BadLengths i (omega arith)) (λ e. goes (account g _ i _ 0) (r, near))
 
-    by_sized : (x : Refusal) (g : Register) (d : DayInput) (at : ℕ) → refusal g (day_call g d) ≡ x → RowFew x → Ready (account g d at 0 0)
+    by_sized : (x : Verdict) (g : Register) (d : DayInput) (at : ℕ) → refusal g (day_call g d) ≡ x → RowFew x → Ready (account g d at 0 0)
         → Prints (day g) (sized x g d at)
     unfolding sized followed_by accept
-    by_sized Clear g d at e few (r, h) = a_day_lem d e (goes (day (step g (day_call g d))) (status_is g (day_call g d) e ∙ r))
-    by_sized (Row number) g d at e few (r, h) = a_refusal number at few (omega arith)
-    by_sized (RowAt number index) g d at e few (r, h) = a_refusal number (at + 1 + index) few.0 (omega (arith, few.1))
+    by_sized (Ok _) g d at e few (r, h) = a_day_lem d e (goes (day (step g (day_call g d))) (status_is g (day_call g d) e ∙ r))
+    by_sized (Err met) g d at e few (r, h) = a_refusal met (line_named at (row_index met)) (named_few last at (row_index met) few h)
 
     by_account : (g : Register) (d : DayInput) (at count used : ℕ) (read : Option AccountLine) → Ready (account g d at count used)
         → Prints (day g) (read_account g d at count used i read)
     unfolding read_account followed_by
-    by_account g d at count used none h = line_9 (day g)
-    by_account g d at count used (some a) h =
+    by_account g d at count used None h = line_9 (day g)
+    by_account g d at count used (Some a) h =
         let d' = with_account d a in
         by_test (Prints (day g)) (eqb (length d'.headings) count) _ _ (λ all. by_sized _ g d' at refl (refusal_few g (day_call g d')) h)
         (λ more. goes (account g d' at count used) h)
@@ -157,9 +161,9 @@ module _ (n last : ℕ) where
 
     by_period : (read : Option (List ℕ)) → FirstIs n read → Prints period (read_period i read)
     unfolding read_period followed_by
-    by_period none is = line_9 period
-    by_period (some ns) is =
-        by_test (Prints period) (n_outside (get_or ns 0 0) || k_outside (get_or ns 1 0)) _ _ (λ e. no_period 1 i refl (omega arith))
+    by_period None is = line_9 period
+    by_period (Some ns) is =
+        by_test (Prints period) (n_outside (get_or ns 0 0) || k_outside (get_or ns 1 0)) _ _ (λ e. no_period BadOpening i (omega arith))
         (λ e. goes (member _) (is, (inside _ _ (get_or ns 0 0) (neither (n_outside (get_or ns 0 0)) _ e).0).1))
 
   -- ---- the end
@@ -171,11 +175,11 @@ module _ (n last : ℕ) where
   by_end : (e : Expected) (i : ℕ) (l : List ℕ) → i ≤ last → Ready e → From e (at_end e i l)
   unfolding at_end
   by_end period i l h r = absurd r
-  by_end (member o) i l h r = no_period 9 i refl h
-  by_end (day g) i l h r = a_refusal 9 i refl h
-  by_end (account g d at count used) i l h r = a_refusal 9 i refl h
+  by_end (member o) i l h r = no_period BadLine i h
+  by_end (day g) i l h r = a_refusal BadLine i h
+  by_end (account g d at count used) i l h r = a_refusal BadLine i h
   by_end (after_end g at) i l h r =
-      by_test (Rest last g) (same l []) _ _ (λ e. by_closed g at r.0) (λ e. a_refusal 9 i refl h)
+      by_test (Rest last g) (same l []) _ _ (λ e. by_closed g at r.0) (λ e. a_refusal BadLine i h)
 
   -- ---- the lines from one on
 
@@ -192,12 +196,12 @@ module _ (n last : ℕ) where
 also_first : (f : List ℕ) (xs : Option (List ℕ)) → FirstIs (value_from 0 f) (also (number_of f) xs)
 unfolding number_of also
 also_first f xs =
-    let odd = outside 1 13 (length f) || any (λ b. not (is_digit b)) f || eqb (get_or f 0 0) 48 && ltb 1 (length f) in
-    by_test (λ (x : Option ℕ). FirstIs (value_from 0 f) (also x xs)) odd none (some (value_from 0 f)) (λ e. tt) (λ e. by xs)
+    let odd = outside 1 13 (length f) || list_any (λ b. not (is_digit b)) f || eqb (get_or f 0 0) 48 && ltb 1 (length f) in
+    by_test (λ (x : Option ℕ). FirstIs (value_from 0 f) (also x xs)) odd None (Some (value_from 0 f)) (λ e. tt) (λ e. by xs)
   where
-    by : (xs : Option (List ℕ)) → FirstIs (value_from 0 f) (also (some (value_from 0 f)) xs)
-    by none = tt
-    by (some vs) = refl
+    by : (xs : Option (List ℕ)) → FirstIs (value_from 0 f) (also (Some (value_from 0 f)) xs)
+    by None = tt
+    by (Some vs) = refl
 
 every_first : (fs : List (List ℕ)) → FirstIs (value_from 0 (get_or fs 0 [])) (every_field number_of fs)
 unfolding every_field value_from
@@ -210,7 +214,7 @@ numbers_first word count l =
     let fs = fields l in
     let first = rw (get_or-drop 1 fs 0 []) at (every_first (drop 1 fs)) in
     let formed = same (get_or fs 0 []) word && eqb (length fs) (count + 1) in
-    by_test (FirstIs (value_from 0 (get_or fs 1 []))) formed (every_field number_of (drop 1 fs)) none (λ e. first) (λ e. tt)
+    by_test (FirstIs (value_from 0 (get_or fs 1 []))) formed (every_field number_of (drop 1 fs)) None (λ e. first) (λ e. tt)
 
 -- ---- the whole report
 
@@ -232,7 +236,7 @@ members_told text = told_by (get_or (split LF text) 0 [])
 first_line : (l : List ℕ) (ls : List (List ℕ)) → length ls + 258 ≤ last_line
     → Report (told_by l) last_line (report_from 1 (l ∷ ls) period)
 unfolding report_from at_end read_line
-first_line l [] near = no_period 9 1 refl (omega arith)
+first_line l [] near = no_period BadLine 1 (omega arith)
 first_line l (m ∷ ls) near =
     let n = told_by l in
     let goes = from_line n last_line 2 m ls (omega arith) in
@@ -273,4 +277,4 @@ reports text = by (ltb enough (length text)) (ltb (index_of LF text) enough) ref
         rw (split_first LF (take enough text), split_first LF text) same_line in
         subst (λ (l : List ℕ). Report (told_by l) last_line (report_of text)) first whole
     by true false p q =
-        rw (too_long 1 text period (omega (arith, ltb-false (index_of LF text) enough q))) (no_period 9 1 refl (omega arith))
+        rw (too_long 1 text period (omega (arith, ltb-false (index_of LF text) enough q))) (no_period BadLine 1 (omega arith))

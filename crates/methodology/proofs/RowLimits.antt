@@ -12,10 +12,12 @@ use Rattle.numbers.proofs.Tests.{neither}
 use Rattle.methodology.specs.declared.Heading.{Heading}
 use Rattle.methodology.specs.declared.Status.{Status}
 use Rattle.methodology.specs.declared.Refusal.{Refusal}
-use Rattle.methodology.specs.declared.Refusal.TheVariants.{Clear, Row, RowAt}
+use Rattle.methodology.specs.declared.Refusal.TheVariants.{BadOpening, OutOfTurn, BadDayNumber, BadLengths, BadHeading, BadAmount, NoLoss, BadLine}
+use Rattle.std.specs.Prelude.{Option, Some, None, Ok, Err}
 use Rattle.methodology.specs.declared.Opening.{Opening}
 use Rattle.methodology.specs.Account.{DayInput, accounts, nobody}
-use Rattle.methodology.specs.Refusals.{row◌when◌else◌, row◌at◌when◌else◌, rows_of◌else◌, outside, count_outside, opening_refusal, bad_input, bad_heading, first_bad_heading, bad_amount, account_rows, day_rows, before_figures, day_refusal, closing_refusal}
+use Rattle.methodology.specs.Numbers.{row_number, row_index}
+use Rattle.methodology.specs.Refusals.{Verdict, clear, row◌when◌else◌, rows_of◌else◌, outside, count_outside, opening_refusal, bad_input, bad_heading, first_bad_heading, bad_amount, account_rows, day_rows, before_figures, day_refusal, closing_refusal}
 use Rattle.methodology.specs.Register.{Call, Register, last_number, refusal}
 use Rattle.methodology.proofs.Passed.{inside}
 
@@ -26,10 +28,24 @@ occurs number = not (outside 1 9 number || eqb number 8)
 pub at_most_9 : (number : ℕ) → occurs number ≡ true → number ≤ 9
 at_most_9 number h = (inside 1 9 number (neither (outside 1 9 number) (eqb number 8) (not-true _ h)).0).1
 
-abbrev pub RowFew : Refusal → Type 0
-RowFew Clear = Unit {0}
-RowFew (Row number) = occurs number ≡ true
-RowFew (RowAt number index) = (occurs number ≡ true) × (index ≤ 256)
+pub row_occurs : (met : Refusal) → occurs (row_number met) ≡ true
+row_occurs BadOpening = refl
+row_occurs OutOfTurn = refl
+row_occurs BadDayNumber = refl
+row_occurs BadLengths = refl
+row_occurs (BadHeading index) = refl
+row_occurs (BadAmount index) = refl
+row_occurs NoLoss = refl
+row_occurs BadLine = refl
+
+-- an index, where there is one, is at most 256
+abbrev pub Few : (index : Option ℕ) → Type 0
+Few None = Unit {0}
+Few (Some index) = index ≤ 256
+
+abbrev pub RowFew : Verdict → Type 0
+RowFew (Ok _) = Unit {0}
+RowFew (Err met) = Few (row_index met)
 
 -- ---- an index
 
@@ -49,27 +65,21 @@ accounts_long k d = table_length _ 0 (length d.headings)
 
 -- ---- a row
 
-when_few : (number : ℕ) (b : Bool) (rest : Refusal) → occurs number ≡ true → (b ≡ false → RowFew rest) → RowFew (row number when b else rest)
+when_few : (met : Refusal) (b : Bool) (rest : Verdict) → Few (row_index met) → (b ≡ false → RowFew rest) → RowFew (row met when b else rest)
 unfolding row◌when◌else◌
-when_few number true rest h f = h
-when_few number false rest h f = f refl
+when_few met true rest h f = h
+when_few met false rest h f = f refl
 
-at_few : (number index : ℕ) (b : Bool) (rest : Refusal) → occurs number ≡ true → index ≤ 256 → RowFew rest → RowFew (row number at index when b else rest)
-unfolding row◌at◌when◌else◌
-at_few number index true rest h i f = (h, i)
-at_few number index false rest h i f = f
-
-rows_few : (x rest : Refusal) → RowFew x → RowFew rest → RowFew (rows_of x else rest)
+rows_few : (x rest : Verdict) → RowFew x → RowFew rest → RowFew (rows_of x else rest)
 unfolding rows_of◌else◌
-rows_few Clear rest h f = f
-rows_few (Row number) rest h f = h
-rows_few (RowAt number index) rest h f = h
+rows_few (Ok _) rest h f = f
+rows_few (Err met) rest h f = h
 
 -- ---- the tables
 
 pub opening_few : (s : Status) (o : Opening) → RowFew (opening_refusal s o)
 unfolding opening_refusal
-opening_few s o = when_few 2 _ _ refl (λ e. when_few 1 _ Clear refl (λ e. tt))
+opening_few s o = when_few OutOfTurn _ _ tt (λ e. when_few BadOpening _ clear tt (λ e. tt))
 
 count_few : (o : Opening) (d : DayInput) → bad_input o d ≡ false → length d.headings ≤ 256
 count_few o d e =
@@ -82,25 +92,25 @@ count_few o d e =
 account_rows_few : (o : Opening) (d : DayInput) → length d.headings ≤ 256 → RowFew (account_rows o d)
 unfolding account_rows
 account_rows_few o d few =
-    at_few 5 _ _ _ refl (omega (arith, bad_heading_le o.n nobody d.headings))
-    (at_few 6 _ _ Clear refl (omega (arith, first_le bad_amount (accounts o.k d), accounts_long o.k d)) tt)
+    when_few (BadHeading _) _ _ (omega (arith, bad_heading_le o.n nobody d.headings))
+    (λ e. when_few (BadAmount _) _ clear (omega (arith, first_le bad_amount (accounts o.k d), accounts_long o.k d)) (λ f. tt))
 
 pub day_few : (s : Status) (o : Opening) (last : ℕ) (d : DayInput) (room : ℕ) → RowFew (day_refusal s o last d room)
 unfolding day_refusal before_figures day_rows
 day_few s o last d room =
     rows_few (before_figures s o last d room) _
-    (when_few 2 _ _ refl
-    (λ e. when_few 4 _ _ refl
-    (λ e. when_few 4 _ _ refl
-    (λ e. when_few 3 _ _ refl
+    (when_few OutOfTurn _ _ tt
+    (λ e. when_few BadLengths _ _ tt
+    (λ e. when_few BadLengths _ _ tt
+    (λ e. when_few BadDayNumber _ _ tt
     (λ f. account_rows_few o d (count_few o d e))))))
-    (when_few 7 _ Clear refl (λ e. tt))
+    (when_few NoLoss _ clear tt (λ e. tt))
 
 pub closing_few : (s : Status) (o : Opening) (room : ℕ) → RowFew (closing_refusal s o room)
 unfolding closing_refusal
 closing_few s o room =
-    when_few 2 _ _ refl
-    (λ e. when_few 4 _ Clear refl (λ e. tt))
+    when_few OutOfTurn _ _ tt
+    (λ e. when_few BadLengths _ clear tt (λ e. tt))
 
 pub refusal_few : (g : Register) (c : Call) → RowFew (refusal g c)
 unfolding refusal

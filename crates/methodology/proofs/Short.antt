@@ -10,6 +10,8 @@ use lib.ListN.{length, take, drop, length-append, length-take}
 use Rattle.numbers.proofs.Lists.{range_length}
 use Rattle.methodology.specs.Account.{members}
 use Rattle.methodology.specs.Register.{Call, Register, start, last_number, accept, step, returned, written}
+use Rattle.methodology.specs.declared.Refusal.{Refusal}
+use Rattle.methodology.specs.Numbers.{row_number}
 use Rattle.methodology.specs.Text.{LF, tab, bytes, digits, decimal, printed, refused_line, stretch, rows, totals, day_lines, fund_lines, report_of}
 use Rattle.methodology.proofs.Passed.{step_clear, by_test}
 use Rattle.methodology.proofs.Enough.{rises}
@@ -72,9 +74,9 @@ fund_short n figures out three few =
     let whole : length (fund_lines n figures out) ≡ length head + length lines = length-append head lines in
     omega (arith, printed_short (bytes "fund") figures, rows_short (bytes "contribution") 3 n out (omega arith))
 
-refused_short : (number line : ℕ) → length (refused_line number line) ≤ a_day
+refused_short : (row : Refusal) (line : ℕ) → length (refused_line row line) ≤ a_day
 unfolding bytes
-refused_short number line = omega (arith, printed_short (bytes "refused") (number ∷ line ∷ []))
+refused_short row line = omega (arith, printed_short (bytes "refused") (row_number row ∷ line ∷ []))
 
 -- ---- the whole report, by what it is made of
 
@@ -93,14 +95,14 @@ rest_short {g = g} few (a_fund clear) =
     let after = step g call in
     let members : after.held.n ≡ g.held.n = ap (λ (x : Register). x.held.n) (step_clear g call clear) in
     omega (arith, fund_short after.held.n (returned after call) (written after call) refl (omega arith))
-rest_short few (a_refusal number line h k) = omega (arith, refused_short number line)
+rest_short few (a_refusal row line k) = omega (arith, refused_short row line)
 
 report_short : {n last : ℕ} {s : List ℕ} → Report n last s → length s ≤ 147456
 unfolding accept
 report_short (a_period o is few clear rest) =
     let members : (step start (Call.opening o)).held.n ≡ o.n = ap (λ (x : Register). x.held.n) (step_clear start (Call.opening o) clear) in
     omega (arith, rest_short (omega arith) rest)
-report_short (no_period number line h k) = omega (arith, refused_short number line)
+report_short (no_period row line k) = omega (arith, refused_short row line)
 
 pub short : (text : List ℕ) → length (report_of text) ≤ 147456
 short text = report_short (reports text)

@@ -4,11 +4,11 @@ use mathlib.Core.Path.{◌≡◌, refl}
 use mathlib.Core.List.{List, ◌∷◌}
 use Prim.Native.Nat.{ℕ, max}
 use Rattle.numbers.specs.Sums.{greatest}
-use Rattle.methodology.specs.declared.Refusal.TheVariants.{Clear}
 use Rattle.methodology.specs.declared.Opening.{Opening}
 use Rattle.methodology.specs.Account.{DayInput, accounts}
 use Rattle.methodology.specs.Day.{own_max_eul}
 use Rattle.methodology.specs.Contribution.{KeptDay, reported_max_eul, highest}
+use Rattle.methodology.specs.Refusals.{clear}
 use Rattle.methodology.specs.Register.{Call, Register, refusal, accept, step}
 use Rattle.methodology.proofs.Passed.{step_clear}
 
@@ -22,9 +22,9 @@ module _ (o : Opening) where
   reported_more d days = refl
 
 -- an accepted day's, by the register before it
-pub day_reports : (g : Register) (d : DayInput) (room : ℕ) → refusal g (Call.day d room) ≡ Clear
+pub day_reports : (g : Register) (d : DayInput) (room : ℕ) → refusal g (Call.day d room) ≡ clear
     → let after = step g (Call.day d room) in
     reported_max_eul after.held after.days ≡ max (own_max_eul g.held (accounts g.held.k d)) (highest g.held g.days)
 unfolding accept
-day_reports g d room clear =
-    rw (step_clear g (Call.day d room) clear) (reported_more g.held (record { number = d.terms.number; accounts = accounts g.held.k d }) g.days)
+day_reports g d room passes =
+    rw (step_clear g (Call.day d room) passes) (reported_more g.held (record { number = d.terms.number; accounts = accounts g.held.k d }) g.days)

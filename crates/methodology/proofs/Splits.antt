@@ -3,18 +3,19 @@
 use mathlib.Core.Path.{◌≡◌, refl, sym, ap, ap₂, ◌∙◌}
 use mathlib.Core.Bool.{Bool, true, false, not, ◌&&◌, cond, true≢false}
 use mathlib.Core.List.{List, [], ◌∷◌}
-use mathlib.Core.Option.{Option, none}
+use Rattle.std.specs.Prelude.{Option, None}
 use Prim.Native.Nat.{ℕ, suc, ◌+◌, ◌*◌, ◌<◌}
 use native.Mathlib.Omega.{arith}
 use lib.Dec.{eqb, ltb}
 use lib.ListN.{length, take, drop}
 use lib.Seq.{take_all}
 use borrow.Author.Tests.{eqb-true, lt-ltb, le-ltb, ltb-true, ltb-false}
-use Rattle.numbers.specs.Lists.{any, first_where}
+use Rattle.numbers.specs.Lists.{first_where}
 use Rattle.numbers.proofs.Tests.{both}
 use Rattle.methodology.specs.declared.Opening.{Opening}
 use Rattle.methodology.specs.Account.{DayInput}
 use Rattle.methodology.specs.Register.{Call, Register, refusal}
+use Rattle.methodology.specs.declared.Refusal.TheVariants.{BadLine}
 use Rattle.methodology.specs.Text.{LF, bytes, same, onto, split, bad_bytes, numbers_after, account_of, refused_line, Expected, period, member, day, account, after_end, Read, bad, read_period, read_member, read_day, read_account, read_line, closed, at_end, followed_by, report_from}
 use Rattle.methodology.specs.Lines.{index_of, has, before, after, is_end, line_read}
 
@@ -49,13 +50,13 @@ module _ (i : ℕ) (s : List ℕ) (e : Expected) where
   line_missing h = rw (split_first LF s, h)
 
 -- A line that is due with a reading of its own: what no LF ends, bad bytes and a line of another form are refused alike.
-by_reading : {A : Type 0} (i : ℕ) (s : List ℕ) (e : Expected) (reading : List ℕ → Option A) (f : Option A → Read) → f none ≡ bad i → at_end e i (before LF s) ≡ refused_line 9 i
+by_reading : {A : Type 0} (i : ℕ) (s : List ℕ) (e : Expected) (reading : List ℕ → Option A) (f : Option A → Read) → f None ≡ bad i → at_end e i (before LF s) ≡ refused_line BadLine i
     → (has LF s ≡ true → read_line e i (before LF s) ≡ f (reading (before LF s))) → report_from i (split LF s) e ≡ followed_by (f (line_read reading s)) (report_from (i + 1) (split LF (after LF s)))
 unfolding line_read followed_by
 by_reading i s e reading f none_is missing_is there-is = by (has LF s) (bad_bytes (before LF s)) refl refl
   where
     by : (h b : Bool) → has LF s ≡ h → bad_bytes (before LF s) ≡ b
-        → report_from i (split LF s) e ≡ followed_by (f (cond (h && not b) (reading (before LF s)) none)) (report_from (i + 1) (split LF (after LF s)))
+        → report_from i (split LF s) e ≡ followed_by (f (cond (h && not b) (reading (before LF s)) None)) (report_from (i + 1) (split LF (after LF s)))
     by false b k q = line_missing i s e k ∙ missing_is ∙ ap (λ (r : Read). followed_by r (report_from (i + 1) (split LF (after LF s)))) (sym none_is)
     by true true k q = line_there i s e k ∙ rw (q, none_is)
     by true false k q = line_there i s e k ∙ rw (q, there-is k)
@@ -78,7 +79,7 @@ same_eq (x ∷ s) [] e = absurd (true≢false (sym e))
 same_eq (x ∷ s) (y ∷ t) e = let (h, k) = both (eqb x y) (same s t) e in ap₂ (λ (a : ℕ) (l : List ℕ). a ∷ l) (eqb-true x y h) (same_eq s t k)
 
 pub end_line_lem : (g : Register) (i : ℕ) (s : List ℕ) → is_end s ≡ true → report_from i (split LF s) (day g) ≡ report_from (i + 1) (split LF (after LF s)) (after_end g i)
-unfolding followed_by read_line bytes bad_bytes any same
+unfolding followed_by read_line bytes bad_bytes same
 end_line_lem g i s e =
     let (h, k) = both (has LF s) (same (before LF s) (bytes "end")) e in
     line_there i s (day g) h ∙ rw (same_eq (before LF s) (bytes "end") k)
@@ -110,12 +111,12 @@ pub nothing_after : (g : Register) (at i : ℕ) → report_from i (split LF []) 
 unfolding report_from split at_end same
 nothing_after g at i = refl
 
-pub something_after : (g : Register) (at i : ℕ) (s : List ℕ) → 0 < length s → report_from i (split LF s) (after_end g at) ≡ refused_line 9 i
+pub something_after : (g : Register) (at i : ℕ) (s : List ℕ) → 0 < length s → report_from i (split LF s) (after_end g at) ≡ refused_line BadLine i
 unfolding followed_by read_line at_end same
 something_after g at i [] h = absurd (omega arith)
 something_after g at i (x ∷ s) h = by (has LF (x ∷ s)) refl
   where
-    by : (b : Bool) → has LF (x ∷ s) ≡ b → report_from i (split LF (x ∷ s)) (after_end g at) ≡ refused_line 9 i
+    by : (b : Bool) → has LF (x ∷ s) ≡ b → report_from i (split LF (x ∷ s)) (after_end g at) ≡ refused_line BadLine i
     by true k = line_there i (x ∷ s) (after_end g at) k ∙ ap (λ (r : Read). followed_by r (report_from (i + 1) (split LF (after LF (x ∷ s))))) (cond_same (bad_bytes (before LF (x ∷ s))) (bad i))
     by false k =
         let all : before LF (x ∷ s) ≡ x ∷ s = take_all (index_of LF (x ∷ s)) (x ∷ s) (ltb-false _ _ k) in

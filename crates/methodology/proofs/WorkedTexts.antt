@@ -3,7 +3,7 @@
 -- the documents by recalculations of others; the theorem computes them.
 use mathlib.Core.Path.{◌≡◌, refl}
 use mathlib.Core.List.{List, [], ◌∷◌, map}
-use mathlib.Core.Option.{some}
+use Rattle.std.specs.Prelude.{Some}
 use Prim.Native.String.{String}
 use lib.IntN.{pos}
 use Rattle.methodology.specs.Text.{goes_on, bad, account, bytes, same, onto, split, value_from, number_of, below0, above0, signed_of, kind_of, also, every_field, bad_bytes, numbers_after, account_by, account_of, digits, decimal, printed, rows, column_sum, totals, day_lines, fund_lines, read_period, opened, read_member, read_day, sized, with_account, read_account, read_line, closed, at_end, followed_by, report_from, report_of}
@@ -506,7 +506,7 @@ pub bytes_passed : read_line (account start begun 4 2 65514) 5 (bytes "acct\t1\t
 unfolding computed reads
 bytes_passed = refl
 
-pub bytes_at_first : (g : Register) → read_day g 4 (some (3 ∷ 2 ∷ [])) ≡ goes_on [] (account g begun 4 2 0)
+pub bytes_at_first : (g : Register) → read_day g 4 (Some (3 ∷ 2 ∷ [])) ≡ goes_on [] (account g begun 4 2 0)
 unfolding computed reads
 bytes_at_first g = refl
 

@@ -3,7 +3,7 @@
 use Rattle.std.specs.Prelude.{cond, ℕ, ◌-◌, ◌*◌, max, eqb, ℤ, get_or}
 use mathlib.Core.List.{List, [], ◌∷◌, flat_map}
 use Rattle.numbers.specs.Signed.{◌⁺}
-use Rattle.numbers.specs.Lists.{keep}
+use Rattle.std.specs.List.{filter}
 use Rattle.numbers.specs.Sums.{Σ, Σℤ, greatest}
 use Rattle.numbers.specs.Rounding.{ceil_div, round_div}
 use Rattle.methodology.specs.declared.Opening.{Opening}
@@ -22,7 +22,7 @@ group_number o m = get_or o.groups (m - 1) 0
 -- with group 0 is its own group".
 unfoldable pub group_of : Opening → (m : ℕ) → List ℕ
 group_of o m =
-    cond (eqb (group_number o m) 0) (m ∷ []) (keep (λ m'. eqb (group_number o m') (group_number o m)) (members o.n))
+    cond (eqb (group_number o m) 0) (m ∷ []) (filter (λ m'. eqb (group_number o m') (group_number o m)) (members o.n))
 
 -- "The group sum under j adds the signed EULs of Affiliates under j", here of the group that member m is in. "Every scenario is added up
 -- for itself".

@@ -1,8 +1,10 @@
 -- Document 01, section by section.
 pub mod Account
+pub mod Brought
 pub mod Member
 pub mod Day
 pub mod Contribution
+pub mod Numbers
 pub mod Refusals
 pub mod Register
 pub mod Text

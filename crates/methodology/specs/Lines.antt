@@ -1,6 +1,6 @@
 -- The line at the front of a text: what `report_from` reads next, where the lines before it are taken away.
 use Rattle.std.specs.Prelude.{Bool, not, ◌&&◌, cond, List, ℕ, suc, ltb, eqb, length, take, drop}
-use Rattle.std.proofs.Math.Option.{Option, none}
+use Rattle.std.specs.Prelude.{Option, None}
 use Rattle.numbers.specs.Lists.{first_where}
 use Rattle.methodology.specs.Text.{LF, bytes, same, bad_bytes}
 
@@ -24,4 +24,4 @@ is_end s = has LF s && same (before LF s) (bytes "end")
 
 -- what `reading` makes of the line: nothing where no LF ends it or its bytes are bad
 unfoldable pub line_read : {A : Type 0} → (reading : List ℕ → Option A) → (text : List ℕ) → Option A
-line_read reading s = cond (has LF s && not (bad_bytes (before LF s))) (reading (before LF s)) none
+line_read reading s = cond (has LF s && not (bad_bytes (before LF s))) (reading (before LF s)) None

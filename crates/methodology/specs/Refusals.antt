@@ -1,34 +1,36 @@
 -- Document 01, "Calls on a period": the refusal table, call by call, each row in its order of precedence: opening 2, 1; day 2, 4, 3, 5, 6,
--- 7; closing 2, 4. By document 02's Change 2, "Number 8 no longer occurs". Row 9 is the text's. `Heading`, `Opening`, `DayTerms`, `Status`
--- and `Refusal` are declared in src/lib.rt.
-use Rattle.std.specs.Prelude.{Bool, true, false, not, ◌&&◌, ◌||◌, cond, List, [], ◌∷◌, ℕ, suc, ◌+◌, ◌*◌, leb, ltb, eqb, ℤ, pos, neg_ℤ, length}
+-- 7; closing 2, 4. Each row has a name here, and its number in Numbers.antt; 9 is the text's. `Heading`, `Opening`, `DayTerms`, `Status` and
+-- `Refusal` are declared in src/lib.rt.
+use Rattle.std.specs.Prelude.{Bool, true, false, not, ◌&&◌, ◌||◌, cond, List, [], ◌∷◌, ℕ, suc, Result, Ok, Err, ◌+◌, ◌*◌, leb, ltb, eqb, ℤ, pos, neg_ℤ, length}
 use Rattle.std.specs.Int.Signed.{lt_z}
-use Rattle.numbers.specs.Lists.{any, first_where}
+use Rattle.std.specs.List.{list_any}
+use Rattle.numbers.specs.Lists.{first_where}
 use Rattle.methodology.specs.declared.Heading.{Heading}
 use Rattle.methodology.specs.declared.Status.{Status}
 use Rattle.methodology.specs.declared.Status.TheVariants.{Fresh, Open, Closed}
 use Rattle.methodology.specs.declared.Refusal.{Refusal}
-use Rattle.methodology.specs.declared.Refusal.TheVariants.{Clear, Row, RowAt}
+use Rattle.methodology.specs.declared.Refusal.TheVariants.{BadOpening, OutOfTurn, BadDayNumber, BadLengths, BadHeading, BadAmount, NoLoss}
 use Rattle.methodology.specs.declared.Opening.{Opening}
 use Rattle.methodology.specs.Account.{DayInput, Account, accounts, nobody, kind_h, kind_r, kind_a, kind_u}
 use Rattle.methodology.specs.Day.{total}
 
-infixr 20 row◌when◌else◌
-infixr 20 row◌at◌when◌else◌
-infixr 20 rows_of◌else◌
--- a row of the table: its number, its condition, and the rows after it
-unfoldable pub row◌when◌else◌ : (number : ℕ) → (condition : Bool) → (rest : Refusal) → Refusal
-row number when condition else rest = cond condition (Row number) rest
+-- what the table says of a call: the first row that it meets, or that it meets none
+abbrev pub Verdict : Type 0
+Verdict = Result (Unit {0}) Refusal
 
--- a row that has an index
-unfoldable pub row◌at◌when◌else◌ : (number index : ℕ) → (condition : Bool) → (rest : Refusal) → Refusal
-row number at index when condition else rest = cond condition (RowAt number index) rest
+abbrev pub clear : Verdict
+clear = Ok tt
+
+infixr 20 row◌when◌else◌
+infixr 20 rows_of◌else◌
+-- a row of the table: its name, its condition, and the rows after it
+unfoldable pub row◌when◌else◌ : (row : Refusal) → (condition : Bool) → (rest : Verdict) → Verdict
+row r when condition else rest = cond condition (Err r) rest
 
 -- rows that have a name of their own, and the rows after them
-unfoldable pub rows_of◌else◌ : (rows rest : Refusal) → Refusal
-rows_of Clear else rest = rest
-rows_of Row number else rest = Row number
-rows_of RowAt number index else rest = RowAt number index
+unfoldable pub rows_of◌else◌ : (rows rest : Verdict) → Verdict
+rows_of Ok _ else rest = rest
+rows_of Err r else rest = Err r
 
 abbrev pub is_open : Status → Bool
 is_open Fresh = false
@@ -55,11 +57,11 @@ group_outside group = outside 0 32 group
 
 -- Row 1: "n, k or a group outside its limit, or group list not n long"
 unfoldable pub bad_opening : Opening → Bool
-bad_opening o = n_outside o.n || k_outside o.k || any group_outside o.groups || not (eqb (length o.groups) o.n)
+bad_opening o = n_outside o.n || k_outside o.k || list_any group_outside o.groups || not (eqb (length o.groups) o.n)
 
 -- "opening 2, 1". Row 2: "opening while open"; so it "is accepted when fresh or closed".
-unfoldable pub opening_refusal : Status → Opening → Refusal
-opening_refusal s o = row 2 when is_open s else row 1 when bad_opening o else Clear
+unfoldable pub opening_refusal : Status → Opening → Verdict
+opening_refusal s o = row OutOfTurn when is_open s else row BadOpening when bad_opening o else clear
 
 -- ---- day
 
@@ -132,7 +134,7 @@ first_bad_heading n prev (h ∷ hs) = cond (bad_heading n prev h) 0 (suc (first_
 
 -- "the last members are missing": member n, at least, has no account
 unfoldable pub last_missing : (n : ℕ) → List Heading → Bool
-last_missing n hs = not (any (λ h. eqb h.member n) hs)
+last_missing n hs = not (list_any (λ h. eqb h.member n) hs)
 
 -- an NPV's limits, "from -10^12 to 10^12", and a margin's, "0 to 10^12"
 abbrev pub limit : ℕ
@@ -143,46 +145,46 @@ npv_outside z = lt_z z (neg_ℤ (pos limit)) || lt_z (pos limit) z
 
 -- Row 6: "amount outside its limit, or extra above margin"
 unfoldable pub bad_amount : Account → Bool
-bad_amount a = any npv_outside a.npvs || outside 0 limit a.margin || ltb a.margin a.extra
+bad_amount a = list_any npv_outside a.npvs || outside 0 limit a.margin || ltb a.margin a.extra
 
 -- Rows 5 and 6, of a day's accounts. Row 5: the first bad account comes first, and "Index = account count if the last members are missing"
 -- and none is bad. "Row 5 is tested over all accounts before row 6."
-unfoldable pub account_rows : Opening → DayInput → Refusal
+unfoldable pub account_rows : Opening → DayInput → Verdict
 account_rows o d =
     let count = length d.headings in
     let bad5 = first_bad_heading o.n nobody d.headings in
     let bad6 = first_where bad_amount (accounts o.k d) in
-    row 5 at bad5 when ltb bad5 count || last_missing o.n d.headings else
-    row 6 at bad6 when ltb bad6 count else
-    Clear
+    row (BadHeading bad5) when ltb bad5 count || last_missing o.n d.headings else
+    row (BadAmount bad6) when ltb bad6 count else
+    clear
 
 -- The rows of what a day brings: 4, 3, 5, 6. `last` is the last accepted day number.
-unfoldable pub day_rows : Opening → (last : ℕ) → DayInput → Refusal
+unfoldable pub day_rows : Opening → (last : ℕ) → DayInput → Verdict
 day_rows o last d =
-    row 4 when bad_input o d else
-    row 3 when bad_day_number last d.terms.number else
+    row BadLengths when bad_input o d else
+    row BadDayNumber when bad_day_number last d.terms.number else
     account_rows o d
 
 -- The rows of a day call before its figures: 2, 4, 3, 5, 6. Row 2: "day [..] while not open". Row 4 is met by the output or by the input.
-unfoldable pub before_figures : Status → Opening → (last : ℕ) → DayInput → (room : ℕ) → Refusal
+unfoldable pub before_figures : Status → Opening → (last : ℕ) → DayInput → (room : ℕ) → Verdict
 before_figures s o last d room =
-    row 2 when not (is_open s) else
-    row 4 when bad_output o room else
+    row OutOfTurn when not (is_open s) else
+    row BadLengths when bad_output o room else
     day_rows o last d
 
 -- "day 2, 4, 3, 5, 6, 7". Row 7: "T is 0".
-unfoldable pub day_refusal : Status → Opening → (last : ℕ) → DayInput → (room : ℕ) → Refusal
+unfoldable pub day_refusal : Status → Opening → (last : ℕ) → DayInput → (room : ℕ) → Verdict
 day_refusal s o last d room =
     rows_of before_figures s o last d room else
-    row 7 when eqb (total o (accounts o.k d)) 0 else
-    Clear
+    row NoLoss when eqb (total o (accounts o.k d)) 0 else
+    clear
 
 -- ---- closing
 
 -- Closing 2, 4. Row 2: "closing while not open". Row 4: "output not [..] 3n (closing) long". A closing with no accepted day is as good as
 -- any (Change 2).
-unfoldable pub closing_refusal : Status → Opening → (room : ℕ) → Refusal
+unfoldable pub closing_refusal : Status → Opening → (room : ℕ) → Verdict
 closing_refusal s o room =
-    row 2 when not (is_open s) else
-    row 4 when not (eqb room (3 * o.n)) else
-    Clear
+    row OutOfTurn when not (is_open s) else
+    row BadLengths when not (eqb room (3 * o.n)) else
+    clear

@@ -1,15 +1,15 @@
 -- Document 01, "Calls on a period": the register, "fed the arguments of each call [..] and nothing of the program's period or answers", and
 -- what a call answers and leaves in its lent buffer by it. The demands are the customer's, numbered.
-use Rattle.std.specs.Prelude.{List, [], ◌∷◌, ℕ, length}
+use Rattle.std.specs.Prelude.{List, [], ◌∷◌, ℕ, Option, Some, None, Ok, Err, length}
 use Rattle.methodology.specs.declared.Status.{Status}
 use Rattle.methodology.specs.declared.Status.TheVariants.{Fresh, Open, Closed}
 use Rattle.methodology.specs.declared.Refusal.{Refusal}
-use Rattle.methodology.specs.declared.Refusal.TheVariants.{Clear, Row, RowAt}
 use Rattle.methodology.specs.declared.Opening.{Opening}
 use Rattle.methodology.specs.Account.{DayInput, no_opening, accounts}
 use Rattle.methodology.specs.Day.{total, dailies}
 use Rattle.methodology.specs.Contribution.{KeptDay, reported_max_eul, highest, contributions, total_funded}
-use Rattle.methodology.specs.Refusals.{opening_refusal, day_refusal, closing_refusal}
+use Rattle.methodology.specs.Numbers.{row_number, row_index}
+use Rattle.methodology.specs.Refusals.{Verdict, opening_refusal, day_refusal, closing_refusal}
 
 -- A call: "the arguments of each call as they stand at that call, the output's length among them", which is `room`.
 pub data Call : Type 0 where
@@ -33,7 +33,7 @@ last_number [] = 0
 last_number (d ∷ ds) = d.number
 
 -- "At each call the refusal table is read with what the register holds"
-unfoldable pub refusal : Register → Call → Refusal
+unfoldable pub refusal : Register → Call → Verdict
 refusal g (opening o) = opening_refusal g.status o
 refusal g (day d room) = day_refusal g.status g.held (last_number g.days) d room
 refusal g (closing room) = closing_refusal g.status g.held room
@@ -51,10 +51,9 @@ accept g (day d room) =
 accept g (closing room) = record { status = Closed; held = g.held; days = g.days }
 
 -- one of two, as a call is accepted or meets a row
-abbrev pub if_accepted {ℓ} : {A : Type ℓ} → Refusal → (then otherwise : A) → A
-if_accepted Clear x y = x
-if_accepted (Row number) x y = y
-if_accepted (RowAt number index) x y = y
+abbrev pub if_accepted {ℓ} : {A : Type ℓ} → Verdict → (then otherwise : A) → A
+if_accepted (Ok _) x y = x
+if_accepted (Err r) x y = y
 
 -- "A call that meets a row is refused by the first in the order above, and the register stays as it was. Any other call is accepted".
 -- "Accepted, in M, D and demand 3, means this."
@@ -82,10 +81,17 @@ written g (opening o) = []
 written g (day d room) = dailies g.held (reported_max_eul g.held g.days) (accounts g.held.k d)
 written g (closing room) = contributions g.held g.days
 
-abbrev pub answer_by : Refusal → (figures : List ℕ) → Answer
-answer_by Clear figures = accepted figures
-answer_by (Row number) figures = refused number
-answer_by (RowAt number index) figures = refused_at number index
+-- a refusal is answered by its row's number, with the index that the row has
+abbrev pub refused_with : (number : ℕ) → (index : Option ℕ) → Answer
+refused_with number None = refused number
+refused_with number (Some index) = refused_at number index
+
+abbrev pub refused_by : Refusal → Answer
+refused_by r = refused_with (row_number r) (row_index r)
+
+abbrev pub answer_by : Verdict → (figures : List ℕ) → Answer
+answer_by (Ok _) figures = accepted figures
+answer_by (Err r) figures = refused_by r
 
 -- the answer to a call
 unfoldable pub answer : Register → Call → Answer

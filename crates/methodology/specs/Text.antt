@@ -1,17 +1,18 @@
 -- Document 01, "The month's text": for any bytes, the bytes of the report. What is read makes calls, and the register answers them. By
 -- document 02's Change 1 a total stands under each accepted day; by its Change 2 a month may have none.
-use Rattle.std.specs.Prelude.{Bool, true, false, not, ◌&&◌, ◌||◌, cond, ℕ, zero, suc, ◌+◌, ◌-◌, ◌*◌, ◌/◌, ◌%◌, ltb, eqb, ℤ, pos, neg_ℤ, length, get_or, take, drop}
+use Rattle.std.specs.Prelude.{Bool, true, false, not, ◌&&◌, ◌||◌, cond, ℕ, zero, suc, ◌+◌, ◌-◌, ◌*◌, ◌/◌, ◌%◌, ltb, eqb, ℤ, pos, neg_ℤ, length, get_or, take, drop, Ok, Err}
 use mathlib.Core.List.{List, [], ◌∷◌, ◌++◌, flat_map}
-use Rattle.std.proofs.Math.Option.{Option, none, some}
+use Rattle.std.specs.Prelude.{Option, None, Some}
 use Prim.Native.Char.{code}
 use Prim.Native.String.{String, [] as empty, ◌∷◌ as ◌then◌}
-use Rattle.numbers.specs.Lists.{any}
+use Rattle.std.specs.List.{list_any}
 use Rattle.numbers.specs.Sums.{Σ}
 use Rattle.methodology.specs.declared.Refusal.{Refusal}
-use Rattle.methodology.specs.declared.Refusal.TheVariants.{Clear, Row, RowAt}
+use Rattle.methodology.specs.declared.Refusal.TheVariants.{BadOpening, BadLengths, BadLine}
 use Rattle.methodology.specs.declared.Opening.{Opening}
 use Rattle.methodology.specs.Account.{with_groups, DayInput, no_accounts, members, kind_h, kind_r, kind_a, kind_u}
-use Rattle.methodology.specs.Refusals.{outside, n_outside, k_outside, count_outside}
+use Rattle.methodology.specs.Numbers.{row_number, row_index}
+use Rattle.methodology.specs.Refusals.{Verdict, outside, n_outside, k_outside, count_outside}
 use Rattle.methodology.specs.Register.{Call, Register, start, refusal, step, returned, written}
 
 -- ---- bytes
@@ -61,17 +62,17 @@ value_from v (b ∷ s) = value_from (10 * v + (b - 48)) s
 -- "Numbers have 1 to 13 digits, no leading zero (0 itself is good)"
 unfoldable pub number_of : (field : List ℕ) → Option ℕ
 number_of f =
-    cond (outside 1 13 (length f) || any (λ b. not (is_digit b)) f || eqb (get_or f 0 0) 48 && ltb 1 (length f)) none (some (value_from 0 f))
+    cond (outside 1 13 (length f) || list_any (λ b. not (is_digit b)) f || eqb (get_or f 0 0) 48 && ltb 1 (length f)) None (Some (value_from 0 f))
 
 -- the number with a minus: none where there is no number, or it is 0
 unfoldable pub below0 : Option ℕ → Option ℤ
-below0 none = none
-below0 (some v) = cond (eqb v 0) none (some (neg_ℤ (pos v)))
+below0 None = None
+below0 (Some v) = cond (eqb v 0) None (Some (neg_ℤ (pos v)))
 
 -- the number without one
 unfoldable pub above0 : Option ℕ → Option ℤ
-above0 none = none
-above0 (some v) = some (pos v)
+above0 None = None
+above0 (Some v) = Some (pos v)
 
 -- "and for NPVs a minus (never -0)"
 unfoldable pub signed_of : (field : List ℕ) → Option ℤ
@@ -84,25 +85,25 @@ kind_of f =
 
 -- x in front of xs, where both are there
 unfoldable pub also : {A : Type 0} → Option A → Option (List A) → Option (List A)
-also none xs = none
-also (some x) none = none
-also (some x) (some xs) = some (x ∷ xs)
+also None xs = None
+also (Some x) None = None
+also (Some x) (Some xs) = Some (x ∷ xs)
 
 -- every field as f reads it: none where one is not of its form
 unfoldable pub every_field : {A : Type 0} → (List ℕ → Option A) → List (List ℕ) → Option (List A)
-every_field f [] = some []
+every_field f [] = Some []
 every_field f (x ∷ xs) = also (f x) (every_field f xs)
 
 -- ---- lines
 
 -- "ASCII lines ended by LF, at most 512 bytes before it"
 unfoldable pub bad_bytes : (line : List ℕ) → Bool
-bad_bytes line = ltb 512 (length line) || any (ltb 127) line
+bad_bytes line = ltb 512 (length line) || list_any (ltb 127) line
 
 -- "The first word is compared whole": the numbers after it, `count` of them
 unfoldable pub numbers_after : (word : List ℕ) → (count : ℕ) → (line : List ℕ) → Option (List ℕ)
 numbers_after word count line =
-    cond (same (get_or (fields line) 0 []) word && eqb (length (fields line)) (count + 1)) (every_field number_of (drop 1 (fields line))) none
+    cond (same (get_or (fields line) 0 []) word && eqb (length (fields line)) (count + 1)) (every_field number_of (drop 1 (fields line))) None
 
 -- a line of an account; the NPVs are its base and its stresses
 pub record AccountLine : Type 0 where
@@ -115,10 +116,10 @@ pub record AccountLine : Type 0 where
 
 -- from its member, account number, margin and extra, its NPVs and its kind
 unfoldable pub account_by : Option (List ℕ) → Option (List ℤ) → (kind : ℕ) → Option AccountLine
-account_by none npvs kind = none
-account_by (some ns) none kind = none
-account_by (some ns) (some npvs) kind =
-    some (record { member = get_or ns 0 0; number = get_or ns 1 0; kind = kind; npvs = npvs; margin = get_or ns 2 0; extra = get_or ns 3 0 })
+account_by None npvs kind = None
+account_by (Some ns) None kind = None
+account_by (Some ns) (Some npvs) kind =
+    Some (record { member = get_or ns 0 0; number = get_or ns 1 0; kind = kind; npvs = npvs; margin = get_or ns 2 0; extra = get_or ns 3 0 })
 
 -- "member, account, kind, base, margin, extra, stress 1 to k"
 unfoldable pub account_of : (k : ℕ) → (line : List ℕ) → Option AccountLine
@@ -126,7 +127,7 @@ account_of k line =
     let fs = fields line in
     cond (same (get_or fs 0 []) (bytes "acct") && eqb (length fs) (7 + k))
     (account_by (every_field number_of (take 2 (drop 1 fs) ++ take 2 (drop 5 fs))) (every_field signed_of (get_or fs 4 [] ∷ drop 7 fs)) (kind_of (get_or fs 3 [])))
-    none
+    None
 
 -- ---- the report's lines
 
@@ -144,8 +145,8 @@ unfoldable pub printed : (word : List ℕ) → List ℕ → List ℕ
 printed word numbers = word ++ flat_map (λ x. tab ∷ decimal x) numbers ++ (LF ∷ [])
 
 -- "A refusal prints `refused`, number, line (from 1)"
-abbrev pub refused_line : (number line : ℕ) → List ℕ
-refused_line number line = printed (bytes "refused") (number ∷ line ∷ [])
+abbrev pub refused_line : Refusal → (line : ℕ) → List ℕ
+refused_line row line = printed (bytes "refused") (row_number row ∷ line ∷ [])
 
 -- member m's numbers, `width` of them in its stretch of what a call wrote
 abbrev pub stretch : (width m : ℕ) → (out : List ℕ) → List ℕ
@@ -196,26 +197,25 @@ pub data Read : Type 0 where
 
 -- "the first bad line for 9"
 abbrev pub bad : (line : ℕ) → Read
-bad line = ends (refused_line 9 line)
+bad line = ends (refused_line BadLine line)
 
 -- "An n, k [..] outside its limit is refused before the lines under it are read"
 unfoldable pub read_period : (line : ℕ) → Option (List ℕ) → Read
-read_period i none = bad i
-read_period i (some ns) =
+read_period i None = bad i
+read_period i (Some ns) =
     let n = get_or ns 0 0 in
     let k = get_or ns 1 0 in
-    cond (n_outside n || k_outside k) (ends (refused_line 1 i)) (goes_on [] (member (record { n = n; k = k; groups = [] })))
+    cond (n_outside n || k_outside k) (ends (refused_line BadOpening i)) (goes_on [] (member (record { n = n; k = k; groups = [] })))
 
 -- "a call is made after its lines are read". "The line is the period line for 1", which is line 1.
-unfoldable pub opened : Refusal → Opening → Read
-opened Clear o = goes_on [] (day (step start (Call.opening o)))
-opened (Row number) o = ends (refused_line number 1)
-opened (RowAt number index) o = ends (refused_line number 1)
+unfoldable pub opened : Verdict → Opening → Read
+opened (Ok _) o = goes_on [] (day (step start (Call.opening o)))
+opened (Err row) o = ends (refused_line row 1)
 
 -- "Member lines run from 1 to n."
 unfoldable pub read_member : Opening → (line : ℕ) → Option (List ℕ) → Read
-read_member o i none = bad i
-read_member o i (some ns) =
+read_member o i None = bad i
+read_member o i (Some ns) =
     let o' = with_groups o (o.groups ++ (get_or ns 1 0 ∷ [])) in
     cond (eqb (get_or ns 0 0) (length o'.groups))
     (cond (eqb (length o'.groups) o.n) (opened (refusal start (Call.opening o')) o') (goes_on [] (member o')))
@@ -223,19 +223,23 @@ read_member o i (some ns) =
 
 -- "[an] account count outside its limit is refused before the lines under it are read"
 unfoldable pub read_day : Register → (line : ℕ) → Option (List ℕ) → Read
-read_day g i none = bad i
-read_day g i (some ns) =
-    cond (count_outside (get_or ns 1 0)) (ends (refused_line 4 i))
+read_day g i None = bad i
+read_day g i (Some ns) =
+    cond (count_outside (get_or ns 1 0)) (ends (refused_line BadLengths i))
     (goes_on [] (account g (no_accounts (record { number = get_or ns 0 0 })) i (get_or ns 1 0) 0))
 
--- "the day line for 3, 4 and 7, the account's (or next) line for 5 and 6"
-unfoldable pub sized : Refusal → Register → DayInput → (line : ℕ) → Read
-sized Clear g d i =
+-- "the day line for 3, 4 and 7, the account's (or next) line for 5 and 6", which have an index. The first account's line follows the day line.
+abbrev pub line_named : (day_line : ℕ) → (index : Option ℕ) → ℕ
+line_named i None = i
+line_named i (Some index) = i + 1 + index
+
+-- the day call, made after its lines are read
+unfoldable pub sized : Verdict → Register → DayInput → (line : ℕ) → Read
+sized (Ok _) g d i =
     let call = Call.day d (5 * g.held.n) in
     let after = step g call in
     goes_on (day_lines d.terms.number after.held.n (returned after call) (written after call)) (day after)
-sized (Row number) g d i = ends (refused_line number i)
-sized (RowAt number index) g d i = ends (refused_line number (i + 1 + index))
+sized (Err row) g d i = ends (refused_line row (line_named i (row_index row)))
 
 -- the day with an account more
 unfoldable pub with_account : DayInput → AccountLine → DayInput
@@ -250,8 +254,8 @@ with_account d a =
 
 -- "a call is made after its lines are read, so 9 in them comes first"
 unfoldable pub read_account : Register → DayInput → (at count used line : ℕ) → Option AccountLine → Read
-read_account g d at count used i none = bad i
-read_account g d at count used i (some a) =
+read_account g d at count used i None = bad i
+read_account g d at count used i (Some a) =
     let d' = with_account d a in
     cond (eqb (length d'.headings) count) (sized (refusal g (Call.day d' (5 * g.held.n))) g d' at) (goes_on [] (account g d' at count used))
 
@@ -268,22 +272,21 @@ read_line (after_end g at) i l = bad i
 
 -- The closing call, made at the end line, which a refusal would name. Since Change 2 there is none: the period is open, and the output 3n
 -- long (`closing_clear` in proofs/Reports.antt).
-unfoldable pub closed : Refusal → Register → (line : ℕ) → List ℕ
-closed Clear g i =
+unfoldable pub closed : Verdict → Register → (line : ℕ) → List ℕ
+closed (Ok _) g i =
     let call = Call.closing (3 * g.held.n) in
     let after = step g call in
     fund_lines after.held.n (returned after call) (written after call)
-closed (Row number) g i = refused_line number i
-closed (RowAt number index) g i = refused_line number i
+closed (Err row) g i = refused_line row i
 
 -- The last part is no line, since no LF ends it. What is due here is missing or unended, and both are 9: "A missing line, or one after end,
 -- is bad by row 9 under its own line number, before the closing call." After end alone it may be empty.
 unfoldable pub at_end : Expected → (number : ℕ) → (rest : List ℕ) → List ℕ
-at_end period i rest = refused_line 9 i
-at_end (member o) i rest = refused_line 9 i
-at_end (day g) i rest = refused_line 9 i
-at_end (account g d at count used) i rest = refused_line 9 i
-at_end (after_end g at) i rest = cond (same rest []) (closed (refusal g (Call.closing (3 * g.held.n))) g at) (refused_line 9 i)
+at_end period i rest = refused_line BadLine i
+at_end (member o) i rest = refused_line BadLine i
+at_end (day g) i rest = refused_line BadLine i
+at_end (account g d at count used) i rest = refused_line BadLine i
+at_end (after_end g at) i rest = cond (same rest []) (closed (refusal g (Call.closing (3 * g.held.n))) g at) (refused_line BadLine i)
 
 -- What a line prints, and what those after it do: "accepted days stay printed".
 unfoldable pub followed_by : Read → (rest : Expected → List ℕ) → List ℕ

@@ -1,9 +1,13 @@
-// The types and the kinds that the definitions in specs/ share with the code of the crates that use this one. There is no code here.
+// The types that the definitions in specs/ share with the code of the crates that use this one.
 #![tactic(auto)]
 
+ghost use Rattle.std.specs.Prelude.{◌≡◌};
+ghost use Rattle.methodology.specs.Numbers.{row_number, row_index};
+
 // What an opening brings. "A period has n members, numbered 1 to n (1 to 32), and k stress scenarios (1 to 16). Each member has a group
-// number, 0 to 32." In a call its groups are a list of any length; a period keeps them in 32 places, with 0 past the last.
-#[derive(Clone, Copy)]
+// number, 0 to 32." In a call its groups are a list of any length; a period keeps them in 32 places, with 0 past the last: no call can fail, so
+// nothing takes memory. The limits are no part of the type, since row 1 answers for what is outside them: who needs one asks for it.
+#[derive(Clone, Copy, Debug, PartialEq, Eq)]
 pub struct Opening {
     pub n: u64,
     pub k: u64,
@@ -11,14 +15,14 @@ pub struct Opening {
 }
 
 // What a day brings beside its accounts.
-#[derive(Clone, Copy)]
+#[derive(Clone, Copy, Debug, PartialEq, Eq)]
 pub struct DayTerms {
     pub number: u64,
 }
 
 // What names an account of a day: its member, its account number and its kind. The fields take any number, since a wrong one is an answer
 // (row 5 of the refusal table) and nothing that a caller must rule out.
-#[derive(Clone, Copy)]
+#[derive(Clone, Copy, Debug, PartialEq, Eq)]
 pub struct Heading {
     pub member: u64,
     pub number: u64,
@@ -26,7 +30,8 @@ pub struct Heading {
 }
 
 // The kinds, by document 01's numbers: house; client with a replacement member appointed; client that is an Affiliate; client with no such
-// appointment. The last is the greatest known one.
+// appointment. The last is the greatest known one. Constants and no enum: a heading's kind is any number, and an enum would turn back into one
+// wherever it is stored or compared.
 pub const KIND_H: u64 = 0;
 
 pub const KIND_R: u64 = 1;
@@ -35,18 +40,63 @@ pub const KIND_A: u64 = 2;
 
 pub const KIND_U: u64 = 3;
 
-// A period is fresh, open or closed.
+// A day as a call brings it: its terms, and its accounts in four lent slices. "The headings of a day's accounts (member, account number, kind)
+// come as a lent slice of records [..]; the NPVs come as one lent slice of signed 64-bit numbers [..]; margins and extras come in two
+// further slices, one number an account."
 #[derive(Clone, Copy)]
+pub struct Day<'a> {
+    pub terms: DayTerms,
+    pub headings: &'a [Heading],
+    pub npvs: &'a [i64],
+    pub margins: &'a [u64],
+    pub extras: &'a [u64],
+}
+
+// A period is fresh, open or closed.
+#[derive(Clone, Copy, Debug, PartialEq, Eq)]
 pub enum Status {
     Fresh,
     Open,
     Closed,
 }
 
-// What the refusal table says of a call: no row is met, a row, or a row with the index of the first bad account.
-#[derive(Clone, Copy)]
+// The rows of the refusal table, of which the last is met by a text alone. Rows 5 and 6 have the index of the first bad account.
+#[derive(Clone, Copy, Debug, PartialEq, Eq)]
 pub enum Refusal {
-    Clear,
-    Row(u64),
-    RowAt(u64, u64),
+    BadOpening,
+    OutOfTurn,
+    BadDayNumber,
+    BadLengths,
+    BadHeading(u64),
+    BadAmount(u64),
+    NoLoss,
+    BadLine,
+}
+
+impl Refusal {
+    // The number that document 01's table returns for the row.
+    pub fn number(self) -> u64
+        ensures { result ≡ row_number self }
+    {
+        match self {
+            Refusal::BadOpening => 1,
+            Refusal::OutOfTurn => 2,
+            Refusal::BadDayNumber => 3,
+            Refusal::BadLengths => 4,
+            Refusal::BadHeading(_) => 5,
+            Refusal::BadAmount(_) => 6,
+            Refusal::NoLoss => 7,
+            Refusal::BadLine => 9,
+        }
+    }
+
+    // The index that the row has beside it, if it has one.
+    pub fn index(self) -> Option<u64>
+        ensures { result ≡ row_index self }
+    {
+        match self {
+            Refusal::BadHeading(index) | Refusal::BadAmount(index) => Some(index),
+            _ => None,
+        }
+    }
 }

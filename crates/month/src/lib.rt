@@ -6,31 +6,33 @@ mod members;
 
 ghost use Rattle.methodology.specs.Text.{report_of};
 ghost use Rattle.report.specs.Put.{Put};
+ghost use Rattle.report.specs.Prints.{Prints};
 
 use crate::members::from_members;
-use lines::numbers_at;
-use methodology::Opening;
-use report::put_refused;
+use lines::numbers;
+use methodology::Refusal;
+use report::Printer;
 use validation::limits::{k_outside, n_outside};
+
+// Prints the report of any text.
+fn print(text: &[u8], printer: &mut Printer)
+    ensures { Prints printer.old (report_of text.now) printer.new }
+{
+    let Some(line) = numbers::<2>(text, b"period") else {
+        return printer.refusal(Refusal::BadLine, 1);
+    };
+    let ([n, k], rest) = line; // not in the pattern above: an array under `Some` has no proof
+    if n_outside(n) || k_outside(k) {
+        return printer.refusal(Refusal::BadOpening, 1);
+    }
+    from_members(rest, n, k, printer)
+}
 
 // The report of any text, for any length of the buffer: `Put` says which bytes stand in it, and how many.
 pub fn report(text: &[u8], out: &mut [u8]) -> usize
     ensures { Put out.old 0 (report_of text.now) out.new result }
 {
-    let mut head = [0u64; 2]; // n, k
-    let next = numbers_at(text, 0, b"period", &mut head);
-    if next == 0 {
-        return put_refused(out, 0, 9, 1);
-    }
-    let n = head[0];
-    let k = head[1];
-    if n_outside(n) || k_outside(k) {
-        return put_refused(out, 0, 1, 1);
-    }
-    let opening = Opening {
-        n,
-        k,
-        groups: [0; 32],
-    };
-    from_members(text, next, opening, out)
+    let mut printer = Printer { out, at: 0 };
+    print(text, &mut printer);
+    printer.at
 }

@@ -1,69 +1,59 @@
 // The member lines, and the opening call that they ask for.
-ghost use Rattle.std.specs.Prelude.{◌≤◌, length};
-ghost use Rattle.report.specs.Put.{Put};
-ghost use Rattle.month.specs.MemberLines.{members_due, MembersMeet};
+ghost use Rattle.std.specs.Prelude.{◌+◌, ◌^◌, ◌≤◌, length, MatchResult};
+ghost use Rattle.report.specs.Prints.{Prints};
+ghost use Rattle.month.specs.MemberLines.{members_due, MembersRead, MemberBad};
 
 use crate::days::days;
 use answers::{is_over, say};
 use day::Progress;
-use lines::{Lines, numbers_at};
-use methodology::Opening;
-use period::Period;
-use report::put_refused;
+use lines::numbers;
+use methodology::Refusal;
+use period::{Period, Reply};
+use report::Printer;
 
-// Reads the member lines of an opening from index p on, its groups into the slice.
-fn read_members(text: &[u8], p: usize, opening: Opening, groups: &mut [u64]) -> Lines
-    requires p_in_bounds { p ≤ length text.now }
-    requires le_n { (1 ≤ opening.n) × (opening.n ≤ length groups.old) }
-    ensures { MembersMeet text.now p opening groups.new result }
+// Reads the member lines of an opening, its groups into the slice. It answers what follows them, or the first bad line, counted from 0.
+fn read_members<'a>(text: &'a [u8], groups: &mut [u64]) -> Result<&'a [u8], usize>
+    requires { 1 ≤ length groups.old }
+    ensures { MatchResult result (λ rest. MembersRead text.now groups.new rest.now) (λ j. MemberBad text.now (length groups.old) j) }
 {
-    let mut at = p;
-    let mut j: usize = 0;
-    while j < opening.n as usize {
-        let mut line = [0u64; 2]; // member, group
-        let next = numbers_at(text, at, b"member", &mut line);
-        if next == 0 {
-            return Lines::Stopped(j);
+    let mut rest = text;
+    for (j, place) in groups.iter_mut().enumerate() {
+        let Some(line) = numbers::<2>(rest, b"member") else {
+            return Err(j);
+        };
+        let ([member, group], next) = line;
+        if member != j as u64 + 1 {
+            return Err(j);
         }
-        if line[0] != j as u64 + 1 {
-            return Lines::Stopped(j);
-        }
-        groups[j] = line[1];
-        at = next;
-        j += 1;
+        *place = group;
+        rest = next;
     }
-    Lines::Read(at)
+    Ok(rest)
 }
 
-// The report from the member lines on. The period line brought the opening, all but its groups.
-pub fn from_members(text: &[u8], p: usize, opening: Opening, out: &mut [u8]) -> usize
-    requires le_p { (1 ≤ p) × (p ≤ length text.now) }
-    requires le_n { (1 ≤ opening.n) × (opening.n ≤ 32) × (1 ≤ opening.k) × (opening.k ≤ 16) }
-    ensures { Put out.old 0 (members_due text.now p opening) out.new result }
+// The report from the member lines on. The period line brought n and k.
+pub fn from_members(text: &[u8], n: u64, k: u64, printer: &mut Printer)
+    requires limits { (1 ≤ n) × (n ≤ 32) × (1 ≤ k) × (k ≤ 16) }
+    requires counted { length text.now + 2 ≤ 2 ^ 63 }
+    ensures { Prints printer.old (members_due text.now n k) printer.new }
 {
-    let n = opening.n as usize;
-    let k = opening.k as usize;
-    let mut groups = [0u64; 32];
-    let lines = read_members(text, p, opening, &mut groups);
-    let next = match lines {
-        Lines::Stopped(j) => {
-            return put_refused(out, 0, 9, 2 + j as u64);
-        }
-        Lines::Read(next) => next,
+    let mut groups = [0; 32];
+    let groups = &mut groups[..n as usize];
+    let rest = match read_members(text, groups) {
+        Ok(rest) => rest,
+        Err(j) => return printer.refusal(Refusal::BadLine, 2 + j as u64),
     };
-    let period = Period::fresh();
-    let reply = period.opening(opening.n, opening.k, &groups[..n]);
-    let outcome = reply.outcome;
-    let after = reply.period;
-    let end = say(outcome, 0, 1, 0, &[], out, 0); // no day's number, line 1, no figures of members
+    let Reply { period, outcome } = Period::fresh().opening(n, k, groups);
+    say(printer, outcome, 0, 1, 0, &[]); // no day's number, line 1, no figures of members
     if is_over(outcome) {
-        return end;
+        return;
     }
     let from = Progress {
-        next,
-        line: 2 + opening.n,
-        at: end,
-        period: after,
+        rest,
+        line: 2 + n,
+        n: n as usize,
+        k: k as usize,
+        period,
     };
-    days(text, from, n, k, out)
+    days(from, printer)
 }

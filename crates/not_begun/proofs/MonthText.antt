@@ -3,20 +3,19 @@
 use mathlib.Core.Path.{◌≡◌, refl, sym, ap, ◌∙◌}
 use mathlib.Core.Bool.{true, false, cond}
 use mathlib.Core.List.{List, [], ◌∷◌, ◌++◌, flat_map, append_assoc, append-nil}
-use mathlib.Core.Option.{some}
+use Rattle.std.specs.Prelude.{Some}
 use Prim.Native.Nat.{ℕ, zero, suc, ◌+◌, ◌-◌, ◌^◌, ◌≤◌, ◌<◌}
 use native.Mathlib.Omega.{arith}
 use lib.Dec.{eqb, ltb}
 use lib.ListN.{length, get_or, take, length-append}
 use lib.Seq.{take-suc, take_all, length-take-le}
 use borrow.Author.Tests.{eq-eqb, ne_eqb, le-ltb}
-use Rattle.numbers.specs.Lists.{range, any, Every}
+use Rattle.numbers.specs.Lists.{range, Every}
 use Rattle.numbers.proofs.Lists.{none_any, every_mem, every_append, every_flat_map, every_weaken}
-use Rattle.methodology.specs.declared.Refusal.TheVariants.{Clear}
 use Rattle.methodology.specs.declared.Opening.{Opening}
 use Rattle.methodology.specs.Account.{with_groups, members}
 use Rattle.methodology.specs.Day.{group_number}
-use Rattle.methodology.specs.Refusals.{row◌when◌else◌, bad_opening, opening_refusal}
+use Rattle.methodology.specs.Refusals.{clear, row◌when◌else◌, bad_opening, opening_refusal}
 use Rattle.methodology.specs.Register.{Call, Register, start, refusal, step}
 use Rattle.methodology.specs.Text.{tab, LF, bytes, same, split, decimal, every_field, also, bad_bytes, numbers_after, printed, Expected, period, member, day, after_end, read_period, Read, goes_on, opened, read_member, read_line, followed_by, report_from, report_of}
 use Rattle.methodology.proofs.Splits.{split_first}
@@ -47,7 +46,7 @@ good_bytes w numbers b few =
     let long : length (line_with w numbers) ≤ 512 = omega (arith, printed_short w numbers, length-append (line_with w numbers) (LF ∷ []), b.short) in
     rw (le-ltb 512 (length (line_with w numbers)) long, none_any (ltb 127) (line_with w numbers) (every_mem Ascii (line_with w numbers) ascii))
 
-reads_two : (w : List ℕ) (a b : ℕ) → Begins w → a < 10 ^ 13 → b < 10 ^ 13 → numbers_after w 2 (line_with w (a ∷ b ∷ [])) ≡ some (a ∷ b ∷ [])
+reads_two : (w : List ℕ) (a b : ℕ) → Begins w → a < 10 ^ 13 → b < 10 ^ 13 → numbers_after w 2 (line_with w (a ∷ b ∷ [])) ≡ Some (a ∷ b ∷ [])
 unfolding numbers_after every_field also
 reads_two w a b s h k =
     rw (line_fields_lem w (a ∷ b ∷ []) (without tab w s.word.0), s.alike, reads_back_as_text a h, reads_back_as_text b k)
@@ -60,15 +59,15 @@ line_read_lem i w numbers rest e b few =
     rw (line_ended w numbers rest (without LF w b.word.1), split_first LF rest, good_bytes w numbers b few)
 
 begins_period : Begins (bytes "period")
-unfolding bytes any same
+unfolding bytes same
 begins_period = record { word = (refl, refl); short = omega arith; ascii = (refl, (refl, (refl, (refl, (refl, (refl, tt)))))); alike = refl }
 
 begins_member : Begins (bytes "member")
-unfolding bytes any same
+unfolding bytes same
 begins_member = record { word = (refl, refl); short = omega arith; ascii = (refl, (refl, (refl, (refl, (refl, (refl, tt)))))); alike = refl }
 
 begins_end : Begins (bytes "end")
-unfolding bytes any same
+unfolding bytes same
 begins_end = record { word = (refl, refl); short = omega arith; ascii = (refl, (refl, (refl, tt))); alike = refl }
 
 -- ---- the text
@@ -87,9 +86,9 @@ module _ (o : Opening) (good : bad_opening o ≡ false) where
   abbrev member_line : (m : ℕ) → List ℕ
   member_line m = printed (bytes "member") (m ∷ group_number o m ∷ [])
 
-  pub clear : refusal start (Call.opening o) ≡ Clear
+  pub opening_clear : refusal start (Call.opening o) ≡ clear
   unfolding refusal opening_refusal row◌when◌else◌
-  clear = rw good
+  opening_clear = rw good
 
   -- the opening with the groups of the first `count` members
   abbrev up_to : (count : ℕ) → Opening
@@ -127,7 +126,7 @@ module _ (o : Opening) (good : bad_opening o ≡ false) where
   unfolding flat_map range followed_by opened
   from_member zero count i end h =
       rw (append-nil (member_line (suc count)))
-      (member_read count i end (omega arith) ∙ rw (eq-eqb (suc count) o.n (omega arith), all_groups (suc count) (omega arith), clear))
+      (member_read count i end (omega arith) ∙ rw (eq-eqb (suc count) o.n (omega arith), all_groups (suc count) (omega arith), opening_clear))
   from_member (suc left) count i end h =
       let more = flat_map member_line (range (suc (suc count)) (suc left)) in
       rw (append_assoc (member_line (suc count)) more end)

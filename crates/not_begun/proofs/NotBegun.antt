@@ -3,19 +3,20 @@
 -- With it the claim is whole: `not_begun`.
 use mathlib.Core.Path.{◌≡◌, refl, sym, ap, subst, ◌∙◌}
 use mathlib.Core.Bool.{false}
-use mathlib.Core.List.{List, [], ◌∷◌, ◌++◌, map, map-append, flat_map, append_assoc, append-nil}
+use mathlib.Core.List.{List, [], ◌∷◌, ◌++◌, map, flat_map, append_assoc, append-nil}
 use Prim.Native.Nat.{ℕ, ◌+◌, ◌*◌, ◌<◌}
 use native.Mathlib.Omega.{arith}
 use lib.ListN.{length, take}
+use Rattle.std.proofs.lemmas.List.Sums.{fold_push}
 use Rattle.numbers.proofs.Lists.{◌∈◌, range_length, mem_range, map_eq}
 use Rattle.numbers.proofs.Rows.{flat_map_map}
 use Rattle.numbers.proofs.Sums.{Σ-const}
 use Rattle.methodology.specs.declared.Status.TheVariants.{Open}
-use Rattle.methodology.specs.declared.Refusal.TheVariants.{Clear}
+use Rattle.methodology.specs.declared.Refusal.TheVariants.{BadLine}
 use Rattle.methodology.specs.declared.Opening.{Opening}
 use Rattle.methodology.specs.Account.{members}
 use Rattle.methodology.specs.Contribution.{charge, raw, funded, unfunded, three, contributions, total_funded}
-use Rattle.methodology.specs.Refusals.{bad_opening}
+use Rattle.methodology.specs.Refusals.{clear, bad_opening}
 use Rattle.methodology.specs.Register.{Call, Register, start, refusal, accept, step, returned, written, accepted, answer, buffer}
 use Rattle.methodology.specs.Text.{bytes, printed, stretch, rows, refused_line, fund_lines, closed, report_of}
 use Rattle.methodology.proofs.Passed.{step_clear, opened_anew}
@@ -27,13 +28,13 @@ use Rattle.period.specs.Registered.{period_of}
 use Rattle.period.specs.Calls.{fresh_period}
 use Rattle.demand3.specs.Made.{Asked, Made, call_of, MadeOn}
 use Rattle.demand3.specs.Demand3.{Holds, register_after}
-use Rattle.demand3.proofs.EveryList.{last_agrees, after_one, from_answers_lem}
+use Rattle.demand3.proofs.EveryList.{last_agrees, from_answers_lem}
 use Rattle.demand3.proofs.Demand3.{made_of}
-use Rattle.demand3.proofs.Demand3Proved.{demand_3}
+use Rattle.demand3.proofs.Demand3Proved.{demand_3, compiled_holds}
 use Rattle.answers.proofs.RefusalRows.{is_clear}
 use Rattle.as_printed.proofs.DaySums.{stretch_is}
 use Rattle.not_begun.specs.NotBegun.{NoAcceptedDay, AsNotBegun, closed_from, ClosedAt, after_accepted, days_answered, text_of, fund_of, NotBegun}
-use Rattle.not_begun.proofs.MonthText.{clear, to_the_end}
+use Rattle.not_begun.proofs.MonthText.{opening_clear, to_the_end}
 
 -- ---- the figures
 
@@ -51,7 +52,7 @@ module _ (g : Register) (room : ℕ) (none : NoAcceptedDay g) (long : room ≡ 3
   abbrev call : Call
   call = Call.closing room
 
-  accepted_then : refusal g call ≡ Clear
+  accepted_then : refusal g call ≡ clear
   accepted_then = rw long (closing_clear g none.opened)
 
   leaves : step g call ≡ closed_from g
@@ -84,12 +85,12 @@ of_list cs c out holds is none long =
     }
 
 at_once : (cs : List Made) (a c : Made) (o : Opening) (out : List ℕ) → MadeOn fresh_period (cs ++ (a ∷ c ∷ []))
-    → a.asked ≡ Asked.opening o → refusal (register_after start cs) (Call.opening o) ≡ Clear
+    → a.asked ≡ Asked.opening o → refusal (register_after start cs) (Call.opening o) ≡ clear
     → c.asked ≡ Asked.closing out → length out ≡ 3 * o.n
     → AsNotBegun o.n (answer_of c.reply.outcome) c.after
 at_once cs a c o out made is e is' long =
     let g = register_after start (cs ++ (a ∷ [])) in
-    let left : g ≡ record { status = Open; held = o; days = [] } = after_one start cs a ∙ rw is (opened_anew (register_after start cs) o e) in
+    let left : g ≡ record { status = Open; held = o; days = [] } = fold_push _ start cs a ∙ rw is (opened_anew (register_after start cs) o e) in
     let made' = subst (MadeOn fresh_period) (sym (append_assoc cs (a ∷ []) (c ∷ []))) made in
     let none : NoAcceptedDay g = record { opened = rw left refl; none = rw left refl } in
     let so = (of_list (cs ++ (a ∷ [])) c out (demand_3.every_list (cs ++ (a ∷ []) ++ (c ∷ [])) made') is' none (long ∙ rw left refl)).as_not_begun in
@@ -111,8 +112,8 @@ d_shows cs c out figures holds is said =
     let g = register_after start cs in
     let k = Call.closing (length out) in
     let answered : answer g k ≡ accepted figures = rw is at (sym (last_agrees start cs c holds).answer ∙ said) in
-    let (clear, same) = is_clear (refusal g k) _ figures answered in
-    let kept = ap (λ (x : Register). length x.days ∷ []) (step_clear g k clear) in
+    let (passes, same) = is_clear (refusal g k) _ figures answered in
+    let kept = ap (λ (x : Register). length x.days ∷ []) (step_clear g k passes) in
     ap (take 1) (sym same) ∙ kept
     ∙ ap (λ (D : ℕ). D ∷ []) (sym (from_answers_lem after_accepted (λ g. length g.days) counted start cs (c ∷ []) holds))
 
@@ -139,7 +140,7 @@ report : (o : Opening) → bad_opening o ≡ false → report_of (text_of o) ≡
 unfolding closed returned written
 report o good =
     let g = step start (Call.opening o) in
-    let is : g ≡ record { status = Open; held = o; days = [] } = opened_anew start o (clear o good) in
+    let is : g ≡ record { status = Open; held = o; days = [] } = opened_anew start o (opening_clear o good) in
     let none : NoAcceptedDay g = record { opened = rw is refl; none = rw is refl } in
     let room = 3 * g.held.n in
     ap report_of (sym (append-nil (text_of o)))
@@ -148,7 +149,7 @@ report o good =
     ∙ rw (closing_clear g none.opened, leaves g room none refl, highest_none g.held, total_none g.held, writes_none g.held)
     (fund_is g.held.n ∙ rw is refl)
 
-report_after : (o : Opening) (rest : List ℕ) → bad_opening o ≡ false → 0 < length rest → report_of (text_of o ++ rest) ≡ refused_line 9 (o.n + 3)
+report_after : (o : Opening) (rest : List ℕ) → bad_opening o ≡ false → 0 < length rest → report_of (text_of o ++ rest) ≡ refused_line BadLine (o.n + 3)
 report_after o rest good some = to_the_end o good rest ∙ something_after (step start (Call.opening o)) (o.n + 2) (o.n + 3) rest some
 
 pub not_begun : NotBegun
@@ -162,8 +163,7 @@ not_begun =
       at_once = at_once;
       compiled_list =
           λ 𝓛 mem run cs c out from.
-          let holds = demand_3.compiled_lists 𝓛 mem run (cs ++ (c ∷ [])) from in
-          of_list (map made_of cs) (made_of c) out (subst (Holds start) (map-append made_of cs (c ∷ [])) holds);
+          of_list (map made_of cs) (made_of c) out (compiled_holds 𝓛 mem run cs (c ∷ []) from);
       d_shows = λ cs c out figures made. d_shows cs c out figures (demand_3.every_list (cs ++ (c ∷ [])) made);
       report = report;
       report_after = report_after;

@@ -1,5 +1,5 @@
 -- Document 02, Change 2: "Number 8 no longer occurs". `NeverOccurs` is the claim, of any number.
-use Rattle.std.specs.Prelude.{◌≡◌, true, List, map, ℕ, get_or}
+use Rattle.std.specs.Prelude.{◌≡◌, true, List, map, ℕ, Ok, Err, get_or}
 use seplogic.Ra.Ura.{Ura}
 use base.Logic.{SProp}
 use prog.Memory.{Memory}
@@ -7,8 +7,8 @@ use prog.Routine.{Routine}
 use types.Logic.{Logic}
 use contract.Monad.{Fun}
 use Rattle.numbers.specs.Lists.{Every}
-use Rattle.methodology.specs.declared.Refusal.{Refusal}
-use Rattle.methodology.specs.declared.Refusal.TheVariants.{Clear, Row, RowAt}
+use Rattle.methodology.specs.Numbers.{row_number}
+use Rattle.methodology.specs.Refusals.{Verdict}
 use Rattle.methodology.specs.Register.{Call, Register, refusal, Answer, accepted, refused, refused_at}
 use Rattle.methodology.specs.Text.{bytes, same, report_of}
 use Rattle.period.specs.Reading.{answer_of}
@@ -18,10 +18,9 @@ use Rattle.demand3.proofs.Demand3.{Called, made_of, FromFresh}
 use Rattle.as_printed.specs.AsPrinted.{Line, lines_of}
 
 -- a row of this number
-abbrev pub IsRow : (number : ℕ) → Refusal → Type 0
-IsRow number Clear = ⊥
-IsRow number (Row r) = r ≡ number
-IsRow number (RowAt r index) = r ≡ number
+abbrev pub IsRow : (number : ℕ) → Verdict → Type 0
+IsRow number (Ok _) = ⊥
+IsRow number (Err met) = row_number met ≡ number
 
 -- an answer that is a refusal by this number
 abbrev pub IsRefusal : (number : ℕ) → Answer → Type 0

@@ -10,12 +10,12 @@ use types.Logic.{Logic}
 use contract.Monad.{Fun}
 use Rattle.numbers.specs.Fractions.{◌over◌}
 use Rattle.methodology.specs.declared.Status.TheVariants.{Open, Closed}
-use Rattle.methodology.specs.declared.Refusal.TheVariants.{Clear}
+use Rattle.methodology.specs.declared.Refusal.TheVariants.{BadLine}
 use Rattle.methodology.specs.declared.Opening.{Opening}
 use Rattle.methodology.specs.Account.{members}
 use Rattle.methodology.specs.Day.{group_number}
 use Rattle.methodology.specs.Contribution.{highest, raw, exact_charge}
-use Rattle.methodology.specs.Refusals.{bad_opening}
+use Rattle.methodology.specs.Refusals.{clear, bad_opening}
 use Rattle.methodology.specs.Register.{Call, Register, start, refusal, step, Answer, accepted, answer, buffer}
 use Rattle.methodology.specs.Text.{bytes, printed, refused_line, report_of}
 use Rattle.period.specs.Reading.{answer_of}
@@ -87,7 +87,7 @@ pub record NotBegun : Type 2 where
       NoAcceptedDay g → length out ≡ 3 * g.held.n → ClosedAt g c
   -- so an opening that is accepted after any calls, and the closing next: nothing is left of what came before
   pub at_once : (cs : List Made) (a c : Made) (o : Opening) (out : List ℕ) → MadeOn fresh_period (cs ++ (a ∷ c ∷ []))
-      → a.asked ≡ Asked.opening o → refusal (register_after start cs) (Call.opening o) ≡ Clear
+      → a.asked ≡ Asked.opening o → refusal (register_after start cs) (Call.opening o) ≡ clear
       → c.asked ≡ Asked.closing out → length out ≡ 3 * o.n
       → AsNotBegun o.n (answer_of c.reply.outcome) c.after
   -- and every list of compiled calls, as demand 3 has them
@@ -101,4 +101,4 @@ pub record NotBegun : Type 2 where
       → answer_of c.reply.outcome ≡ accepted figures → take 1 figures ≡ days_answered cs ∷ []
   -- every text of period, members and end; with anything after it the next line is refused by 9, "before the closing call", as in any month
   pub report : (o : Opening) → bad_opening o ≡ false → report_of (text_of o) ≡ fund_of o.n
-  pub report_after : (o : Opening) (rest : List ℕ) → bad_opening o ≡ false → 0 < length rest → report_of (text_of o ++ rest) ≡ refused_line 9 (o.n + 3)
+  pub report_after : (o : Opening) (rest : List ℕ) → bad_opening o ≡ false → 0 < length rest → report_of (text_of o ++ rest) ≡ refused_line BadLine (o.n + 3)

@@ -8,4 +8,3 @@ pub mod Sorting
 pub mod Fractions
 pub mod Rounding
 pub mod RoundedUp
-pub mod Division

@@ -16,7 +16,8 @@ use lib.ListN.{length, get_or, take, drop, set, replicate, length-map, length-dr
 use lib.Seq.{drop-cons, drop-drop, take-nil, drop-nil, take-take, get_or-take, get_or-drop, get_or-set_same, get_or-set_other, length-take-le, ext_get_or}
 use borrow.Author.Count.{below_none, below_more}
 use borrow.Author.Tests.{eqb-true, eqb-false}
-use Rattle.numbers.specs.Lists.{range, keep, any, first_where, Every}
+use Rattle.std.specs.List.{filter, list_any}
+use Rattle.numbers.specs.Lists.{range, first_where, Every}
 use Rattle.numbers.proofs.Tests.{neither}
 
 infix 50 ◌∈◌
@@ -167,46 +168,39 @@ module _ {A : Type 0} where
 
 -- the elements that pass a test
 module _ {A : Type 0} (p : A → Bool) where
-  keep_append : (xs ys : List A) → keep p (xs ++ ys) ≡ keep p xs ++ keep p ys
-  unfolding keep
+  keep_append : (xs ys : List A) → filter p (xs ++ ys) ≡ filter p xs ++ filter p ys
   keep_append [] ys = refl
   keep_append (x ∷ xs) ys = rw (keep_append xs ys) (by (p x))
     where
-      by : (t : Bool) → cond t (x ∷ (keep p xs ++ keep p ys)) (keep p xs ++ keep p ys) ≡ cond t (x ∷ keep p xs) (keep p xs) ++ keep p ys
+      by : (t : Bool) → cond t (x ∷ (filter p xs ++ filter p ys)) (filter p xs ++ filter p ys) ≡ cond t (x ∷ filter p xs) (filter p xs) ++ filter p ys
       by true = refl
       by false = refl
 
   -- one element more, in front or at the end: it is kept where it passes, and nothing changes where it fails
-  pub keep_cons : (x : A) (xs : List A) → p x ≡ true → keep p (x ∷ xs) ≡ x ∷ keep p xs
-  unfolding keep
+  pub keep_cons : (x : A) (xs : List A) → p x ≡ true → filter p (x ∷ xs) ≡ x ∷ filter p xs
   keep_cons x xs e = rw e
 
-  pub keep_cons_skip : (x : A) (xs : List A) → p x ≡ false → keep p (x ∷ xs) ≡ keep p xs
-  unfolding keep
+  pub keep_cons_skip : (x : A) (xs : List A) → p x ≡ false → filter p (x ∷ xs) ≡ filter p xs
   keep_cons_skip x xs e = rw e
 
-  pub keep_snoc : (xs : List A) (x : A) → p x ≡ true → keep p (xs ++ (x ∷ [])) ≡ keep p xs ++ (x ∷ [])
-  unfolding keep
+  pub keep_snoc : (xs : List A) (x : A) → p x ≡ true → filter p (xs ++ (x ∷ [])) ≡ filter p xs ++ (x ∷ [])
   keep_snoc xs x e = rw (keep_append xs (x ∷ []), e)
 
-  pub keep_snoc_skip : (xs : List A) (x : A) → p x ≡ false → keep p (xs ++ (x ∷ [])) ≡ keep p xs
-  unfolding keep
+  pub keep_snoc_skip : (xs : List A) (x : A) → p x ≡ false → filter p (xs ++ (x ∷ [])) ≡ filter p xs
   keep_snoc_skip xs x e = rw (keep_append xs (x ∷ []), e, append-nil)
 
   -- which they are
-  pub mem_keep : {x : A} (xs : List A) → x ∈ keep p xs → (x ∈ xs) × (p x ≡ true)
-  unfolding keep
+  pub mem_keep : {x : A} (xs : List A) → x ∈ filter p xs → (x ∈ xs) × (p x ≡ true)
   mem_keep [] m = absurd (Memᴰ.not-nil m)
   mem_keep {x} (y ∷ ys) m = by (p y) refl (mem_keep ys) m
     where
-      by : (t : Bool) → p y ≡ t → (x ∈ keep p ys → (x ∈ ys) × (p x ≡ true)) → x ∈ cond t (y ∷ keep p ys) (keep p ys) → (x ∈ (y ∷ ys)) × (p x ≡ true)
+      by : (t : Bool) → p y ≡ t → (x ∈ filter p ys → (x ∈ ys) × (p x ≡ true)) → x ∈ cond t (y ∷ filter p ys) (filter p ys) → (x ∈ (y ∷ ys)) × (p x ≡ true)
       by true e h (here q) = (here q, ap p q ∙ e)
       by true e h (there m) = (there (h m).0, (h m).1)
       by false e h m = (there (h m).0, (h m).1)
 
 -- where none passes
-keep_none : {A : Type 0} (p : A → Bool) (xs : List A) → ((x : A) → x ∈ xs → p x ≡ false) → keep p xs ≡ []
-unfolding keep
+keep_none : {A : Type 0} (p : A → Bool) (xs : List A) → ((x : A) → x ∈ xs → p x ≡ false) → filter p xs ≡ []
 keep_none p [] h = refl
 keep_none p (x ∷ xs) h = rw (h x (here refl), keep_none p xs (λ y m. h y (there m)))
 
@@ -215,8 +209,7 @@ pub keep_part : {A : Type 0} (p : A → Bool) (xs : List A) (d : A) (a b : ℕ) 
     → ((i : ℕ) → i < a → p (get_or xs i d) ≡ false)
     → ((i : ℕ) → a ≤ i → i < b → p (get_or xs i d) ≡ true)
     → ((i : ℕ) → b ≤ i → i < length xs → p (get_or xs i d) ≡ false)
-    → keep p xs ≡ take (b - a) (drop a xs)
-unfolding keep
+    → filter p xs ≡ take (b - a) (drop a xs)
 keep_part p [] d a b h k f g e = rw (drop-nil, take-nil)
 keep_part p (x ∷ xs) d zero zero h k f g e =
     keep_none p (x ∷ xs) (by_index (λ y. p y ≡ false) (x ∷ xs) d (λ i. e i (omega arith)))
@@ -235,18 +228,15 @@ keep_part p (x ∷ xs) d (suc a) (suc b) h k f g e =
 
 -- whether any element passes a test: it fails at each member where none does
 module _ {A : Type 0} (p : A → Bool) where
-  pub any_false : {x : A} {xs : List A} → any p xs ≡ false → x ∈ xs → p x ≡ false
-  unfolding any
+  pub any_false : {x : A} {xs : List A} → list_any p xs ≡ false → x ∈ xs → p x ≡ false
   any_false e (here q) = ap p q ∙ (neither _ _ e).0
-  any_false e (there {x = y} {xs = ys} m) = any_false (neither (p y) (any p ys) e).1 m
+  any_false e (there {x = y} {xs = ys} m) = any_false (neither (p y) (list_any p ys) e).1 m
 
-  pub none_any : (xs : List A) → ((x : A) → x ∈ xs → p x ≡ false) → any p xs ≡ false
-  unfolding any
+  pub none_any : (xs : List A) → ((x : A) → x ∈ xs → p x ≡ false) → list_any p xs ≡ false
   none_any [] h = refl
   none_any (x ∷ xs) h = rw (h x (here refl)) (none_any xs (λ y m. h y (there m)))
 
-  some_any : {x : A} {xs : List A} → x ∈ xs → p x ≡ true → any p xs ≡ true
-  unfolding any
+  some_any : {x : A} {xs : List A} → x ∈ xs → p x ≡ true → list_any p xs ≡ true
   some_any (here e) h = rw (ap p (sym e) ∙ h)
   some_any (there {x = y} m) h = rw (some_any m h) (or-true (p y))
 
@@ -263,15 +253,14 @@ module _ {A : Type 0} (p : A → Bool) (xs : List A) (d : A) where
   pub none_more : (i : ℕ) → i < length xs → p (get_or xs i d) ≡ false → NoneBefore p xs d i → NoneBefore p xs d (i + 1)
   none_more i h e n = record { high = omega arith; fails = below_more _ i n.fails e }
 
-  pub any_found : (i : ℕ) → i < length xs → p (get_or xs i d) ≡ true → any p xs ≡ true
+  pub any_found : (i : ℕ) → i < length xs → p (get_or xs i d) ≡ true → list_any p xs ≡ true
   any_found i h e = some_any p (mem_at xs d h) e
 
-  pub any_none : (i : ℕ) → length xs ≤ i → NoneBefore p xs d i → any p xs ≡ false
+  pub any_none : (i : ℕ) → length xs ≤ i → NoneBefore p xs d i → list_any p xs ≡ false
   any_none i h n = none_any p xs (by_index (λ x. p x ≡ false) xs d (λ j l. n.fails j (omega arith)))
 
 -- over a mapped list
-pub any_map : {A B : Type 0} (p : B → Bool) (f : A → B) (xs : List A) → any p (map f xs) ≡ any (λ x. p (f x)) xs
-unfolding any
+pub any_map : {A B : Type 0} (p : B → Bool) (f : A → B) (xs : List A) → list_any p (map f xs) ≡ list_any (λ x. p (f x)) xs
 any_map p f [] = refl
 any_map p f (x ∷ xs) = ap (λ (t : Bool). p (f x) || t) (any_map p f xs)
 

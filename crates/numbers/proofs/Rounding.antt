@@ -1,9 +1,9 @@
 -- Laws of a fraction p / q, rounded up and rounded to the nearest. Two bounds on its multiple of q single out the rounded number, and every
 -- other law follows from these bounds by `nearby`. Each law takes p and q, and that q is above 0, first.
-use mathlib.Core.Path.{◌≡◌, sym, ap}
-use Prim.Native.Nat.{ℕ, ◌+◌, ◌-◌, ◌*◌, ◌/◌, ◌%◌, ◌<◌, ◌≤◌}
+use mathlib.Core.Path.{◌≡◌}
+use Prim.Native.Nat.{ℕ, ◌+◌, ◌-◌, ◌*◌, ◌<◌, ◌≤◌}
 use native.Mathlib.Omega.{arith}
-use native.Mathlib.Nat.{le_trans, le_antisymm, mul-pos, mul-le-mul_left, mul-le-mul_right, lt_of_mul-lt-mul_right, div-mul-le_self, lt-div-mul-add, div-add-mod', mod-lt}
+use native.Mathlib.Nat.{le_trans, le_antisymm, mul-pos, mul-le-mul_right, lt_of_mul-lt-mul_right, div-mul-le_self, lt-div-mul-add}
 use Rattle.numbers.specs.Rounding.{ceil_div, round_div}
 
 -- a number whose multiple of q is less than q above another's is at most the other
@@ -48,40 +48,6 @@ module _ (p q : ℕ) (hq : 0 < q) where
 
   pub round_le : (n : ℕ) → p ≤ n * q → round_div p q ≤ n
   round_le n h = nearby (round_div p q) n q (omega (arith, round_below))
-
-  -- a fraction is at most p, rounded up too
-  pub ceil_le_self : ceil_div p q ≤ p
-  ceil_le_self = ceil_le p (omega (arith, mul-le-mul_left p hq))
-
-  -- to the nearest is at most up
-  pub round_le_ceil : round_div p q ≤ ceil_div p q
-  round_le_ceil = round_le (ceil_div p q) ceil_above
-
--- from the quotient d and the remainder r of p by q, as a program has them
-module _ (p q : ℕ) (hq : 0 < q) (d r : ℕ) (hd : d ≡ p / q) (hr : r ≡ p % q) where
-  pub divided : p ≡ d * q + r
-  divided = rw (hd, hr) (sym (div-add-mod' p q))
-
-  pub rem_lt : r < q
-  rem_lt = rw hr (mod-lt p hq)
-
-  pub ceil_exact : r ≡ 0 → d ≡ ceil_div p q
-  ceil_exact h = ceil_unique p q hq d (omega (arith, divided)) (omega (arith, divided))
-
-  pub ceil_more : (r ≡ 0 → ⊥) → d + 1 ≡ ceil_div p q
-  ceil_more h = ceil_unique p q hq (d + 1) (omega (arith, divided, rem_lt)) (omega (arith, divided))
-
-  pub round_down : 2 * r < q → d ≡ round_div p q
-  round_down h = round_unique p q hq d (omega (arith, divided)) (omega (arith, divided))
-
-  pub round_up : q ≤ 2 * r → d + 1 ≡ round_div p q
-  round_up h = round_unique p q hq (d + 1) (omega (arith, divided, rem_lt)) (omega (arith, divided))
-
-  -- a multiple of p / q: only what is left of it is still to round
-  pub round_times : (f : ℕ) → f * d + round_div (f * r) q ≡ round_div (f * p) q
-  round_times f =
-      let parts : f * p ≡ f * d * q + f * r = omega (arith, ap (λ (n : ℕ). f * n) divided) in
-      round_unique (f * p) q hq (f * d + round_div (f * r) q) (omega (arith, round_above (f * r) q hq)) (omega (arith, round_below (f * r) q hq))
 
 -- rounded up, a fraction grows with p
 pub ceil_mono : (p p' q : ℕ) → 0 < q → p ≤ p' → ceil_div p q ≤ ceil_div p' q

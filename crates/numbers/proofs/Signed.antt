@@ -1,12 +1,12 @@
 -- Signed arithmetic for `omega`: an integer z is z ⁺ less z ⁻, and every law is linear in these two natural numbers, with no side condition.
 -- To prove an order or an equation of integers write `omega (arith, signed, ..)` with one fact for each operation in sight, as `⁺-mono` does.
-use mathlib.Core.Path.{◌≡◌, refl, sym, ap, subst}
+use mathlib.Core.Path.{◌≡◌, refl, ap, subst}
 use mathlib.Core.Bool.{Bool, true, false, not, cond}
 use Prim.Native.Nat.{ℕ, zero, suc, ◌+◌, ◌-◌, ◌≤◌, ◌<◌, ◌^◌, min}
 use native.Mathlib.Omega.{arith}
 use lib.Dec.{T, ltb, ltb→lt, lt→ltb, leb→le, le→leb, nltb→le}
 use lib.IntN.{ℤ, pos, negsuc, neg_ℤ, nat_abs, sub_ℕ, ◌+ℤ◌, ◌-ℤ◌}
-use lib.Signed.{◌≤ℤ◌, ◌<ℤ◌, le_z, lt_z, non_neg, mag, lt_z_yes, lt_z_no, clash_ℤ, yes_non_neg}
+use lib.Signed.{◌≤ℤ◌, ◌<ℤ◌, le_z, lt_z, non_neg, mag, yes_non_neg}
 use mir.Syntax.{Width}
 use mir.Val.{SFits, Fits, to_z, of_z, hbits}
 use mir.ValLaws.{to_z-of_z, pow-bits}
@@ -116,10 +116,6 @@ sfits→ : {w : Width} {z : ℤ} → SFits w z → z ⁺ + z ⁻ ≤ 2 ^ hbits w
 sfits→ {z = pos n} h = omega (arith, h.sfits)
 sfits→ {z = negsuc n} h = omega (arith, h.sfits)
 
--- a literal
-pub lit_fits : {w : Width} (z : ℤ) → T (ltb (mag z) (2 ^ hbits w)) → SFits w z
-lit_fits {w} z t = record { sfits = ltb→lt (mag z) (2 ^ hbits w) t }
-
 -- a signed number that is not negative, cast to an unsigned one: what the cast asks, and what it gives
 pub to_unsigned : {w : Width} {z : ℤ} → SFits w z → pos 0 ≤ℤ z → T (non_neg z) × Fits w (nat_abs z)
 to_unsigned {w} {z} f h = (yes_non_neg h, record { fits = omega (arith, abs_is z, sfits→ f, f.sfits, pow-bits w) })
@@ -133,26 +129,3 @@ back {w} {z} f = to_z-of_z w z f
 
 pub back_ok : (w : Width) (z : ℤ) → mag z < 2 ^ hbits w → to_z w (of_z w z) ≡ z
 back_ok w z h = to_z-of_z w z (record { sfits = h })
-
--- a test on two signed locals, held and failed
-module _ {w : Width} {a b : ℤ} (f : SFits w a) (g : SFits w b) where
-  pub lt_held : lt_z (to_z w (of_z w a)) (to_z w (of_z w b)) ≡ true → a <ℤ b
-  lt_held e = lt_z_yes (subst T (sym (simp (back f, back g) at e)) tt)
-
-  pub lt_failed : lt_z (to_z w (of_z w a)) (to_z w (of_z w b)) ≡ false → b ≤ℤ a
-  lt_failed e = lt_z_no (subst (λ (t : Bool). T (not t)) (sym (simp (back f, back g) at e)) tt)
-
--- a test's value from the fact, for a definition that computes a test
-held : (t : Bool) → T t → t ≡ true
-held true h = refl
-held false h = absurd h
-
-failed : (t : Bool) → (T t → ⊥) → t ≡ false
-failed true h = absurd (h tt)
-failed false h = refl
-
-pub is_lt : {a b : ℤ} → a <ℤ b → lt_z a b ≡ true
-is_lt {a} {b} h = held (lt_z a b) h.lt
-
-pub not_lt : {a b : ℤ} → b ≤ℤ a → lt_z a b ≡ false
-not_lt {a} {b} h = failed (lt_z a b) (λ t. clash_ℤ (lt_z_yes t) h)

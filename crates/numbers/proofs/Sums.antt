@@ -15,7 +15,8 @@ use lib.ListN.{length, get_or, take, drop, take-append-drop}
 use lib.Seq.{take-suc}
 use borrow.Author.Tests.{eqb-true, ne_eqb}
 use Rattle.numbers.specs.Signed.{◌⁺}
-use Rattle.numbers.specs.Lists.{range, keep}
+use Rattle.std.specs.List.{filter}
+use Rattle.numbers.specs.Lists.{range}
 use Rattle.numbers.specs.Sums.{Σ, Σℤ, greatest}
 use Rattle.numbers.proofs.Signed.{signed, add, ⁺-add, abs_add}
 use Rattle.numbers.proofs.Lists.{◌∈◌, mem_range}
@@ -96,33 +97,33 @@ unfolding Σ
 Σ-perm (Permᴰ.trans p q) f = Σ-perm p f ∙ Σ-perm q f
 
 -- over the elements that pass a test and those that fail it: together the whole, so that over a part it is no greater
-Σ-split : {A : Type 0} (p : A → Bool) (xs : List A) (f : A → ℕ) → Σ (keep p xs) f + Σ (keep (λ x. not (p x)) xs) f ≡ Σ xs f
-unfolding Σ keep
+Σ-split : {A : Type 0} (p : A → Bool) (xs : List A) (f : A → ℕ) → Σ (filter p xs) f + Σ (filter (λ x. not (p x)) xs) f ≡ Σ xs f
+unfolding Σ
 Σ-split p [] f = refl
 Σ-split p (x ∷ xs) f = by (p x) (Σ-split p xs f)
   where
-    by : (t : Bool) → Σ (keep p xs) f + Σ (keep (λ y. not (p y)) xs) f ≡ Σ xs f
-        → Σ (cond t (x ∷ keep p xs) (keep p xs)) f + Σ (cond (not t) (x ∷ keep (λ y. not (p y)) xs) (keep (λ y. not (p y)) xs)) f ≡ f x + Σ xs f
+    by : (t : Bool) → Σ (filter p xs) f + Σ (filter (λ y. not (p y)) xs) f ≡ Σ xs f
+        → Σ (cond t (x ∷ filter p xs) (filter p xs)) f + Σ (cond (not t) (x ∷ filter (λ y. not (p y)) xs) (filter (λ y. not (p y)) xs)) f ≡ f x + Σ xs f
     by true e = omega arith
     by false e = omega arith
 
-pub Σ-keep_le : {A : Type 0} (p : A → Bool) (xs : List A) (f : A → ℕ) → Σ (keep p xs) f ≤ Σ xs f
+pub Σ-keep_le : {A : Type 0} (p : A → Bool) (xs : List A) (f : A → ℕ) → Σ (filter p xs) f ≤ Σ xs f
 Σ-keep_le p xs f = omega (arith, Σ-split p xs f)
 
 pub Σ-take_le : {A : Type 0} (n : ℕ) (xs : List A) (f : A → ℕ) → Σ (take n xs) f ≤ Σ xs f
 Σ-take_le n xs f = omega (arith, ap (λ (l : List _). Σ l f) (take-append-drop n xs), Σ-append (take n xs) (drop n xs) f)
 
 -- what fails a test adds 0; and over those that pass one of two tests the sum is at most that for each
-Σ-keep : {A : Type 0} (p : A → Bool) (xs : List A) (f : A → ℕ) → Σ (keep p xs) f ≡ Σ xs (λ x. cond (p x) (f x) 0)
-unfolding Σ keep
+Σ-keep : {A : Type 0} (p : A → Bool) (xs : List A) (f : A → ℕ) → Σ (filter p xs) f ≡ Σ xs (λ x. cond (p x) (f x) 0)
+unfolding Σ
 Σ-keep p [] f = refl
 Σ-keep p (x ∷ xs) f = by (p x) (Σ-keep p xs f)
   where
-    by : (t : Bool) → Σ (keep p xs) f ≡ Σ xs (λ y. cond (p y) (f y) 0) → Σ (cond t (x ∷ keep p xs) (keep p xs)) f ≡ cond t (f x) 0 + Σ xs (λ y. cond (p y) (f y) 0)
+    by : (t : Bool) → Σ (filter p xs) f ≡ Σ xs (λ y. cond (p y) (f y) 0) → Σ (cond t (x ∷ filter p xs) (filter p xs)) f ≡ cond t (f x) 0 + Σ xs (λ y. cond (p y) (f y) 0)
     by true e = omega arith
     by false e = omega arith
 
-pub Σ-or : {A : Type 0} (p q : A → Bool) (xs : List A) (f : A → ℕ) → Σ (keep (λ x. p x || q x) xs) f ≤ Σ (keep p xs) f + Σ (keep q xs) f
+pub Σ-or : {A : Type 0} (p q : A → Bool) (xs : List A) (f : A → ℕ) → Σ (filter (λ x. p x || q x) xs) f ≤ Σ (filter p xs) f + Σ (filter q xs) f
 Σ-or p q xs f = rw (Σ-keep _ xs f, Σ-keep p xs f, Σ-keep q xs f, ← Σ-add) (Σ-mono xs _ _ (λ x m. by (p x) (q x) (f x)))
   where
     by : (s t : Bool) (c : ℕ) → cond (s || t) c 0 ≤ cond s c 0 + cond t c 0
@@ -141,7 +142,7 @@ one_class y c a (suc n) = by (eqb y a) refl (one_class y c (suc a) n)
         omega (arith, Σ-zero (range (suc a) n) _ past)
     by false q h = omega arith
 
-pub Σ-classes : {A : Type 0} (g : A → ℕ) (a n : ℕ) (xs : List A) (f : A → ℕ) → Σ (range a n) (λ i. Σ (keep (λ x. eqb (g x) i) xs) f) ≤ Σ xs f
+pub Σ-classes : {A : Type 0} (g : A → ℕ) (a n : ℕ) (xs : List A) (f : A → ℕ) → Σ (range a n) (λ i. Σ (filter (λ x. eqb (g x) i) xs) f) ≤ Σ xs f
 Σ-classes g a n xs f = simp Σ-keep (rw (Σ-swap (range a n) xs (λ i x. cond (eqb (g x) i) (f x) 0)) (Σ-mono xs _ f (λ x m. one_class (g x) (f x) a n)))
 
 -- ---- sums of signed numbers

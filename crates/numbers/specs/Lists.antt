@@ -1,20 +1,10 @@
--- Lists, as far as the library has no word for what is meant. An index counts from 0.
-use Rattle.std.specs.Prelude.{Bool, false, ◌||◌, cond, List, [], ◌∷◌, ℕ, zero, suc, leb}
+-- Lists, in the words of document 01. An index counts from 0.
+use Rattle.std.specs.Prelude.{Bool, cond, List, [], ◌∷◌, ℕ, zero, suc, leb}
 
 -- count numbers from the first on: first, first + 1, ..
 unfoldable pub range : (first count : ℕ) → List ℕ
 range first zero = []
 range first (suc count) = first ∷ range (suc first) count
-
--- the elements that pass a test
-unfoldable pub keep : {A : Type 0} → (A → Bool) → List A → List A
-keep test [] = []
-keep test (x ∷ xs) = cond (test x) (x ∷ keep test xs) (keep test xs)
-
--- whether any element passes a test
-unfoldable pub any : {A : Type 0} → (A → Bool) → List A → Bool
-any test [] = false
-any test (x ∷ xs) = test x || any test xs
 
 -- the index of the first element that passes a test, or the length where none does
 unfoldable pub first_where : {A : Type 0} → (A → Bool) → List A → ℕ

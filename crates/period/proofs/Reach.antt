@@ -7,17 +7,19 @@ use native.Mathlib.Omega.{arith}
 use lib.Dec.{ltb}
 use lib.ListN.{length, get_or}
 use borrow.Author.Tests.{le-leb, le-ltb}
-use Rattle.numbers.specs.Lists.{range, any}
+use Rattle.std.specs.List.{list_any}
+use Rattle.numbers.specs.Lists.{range}
 use Rattle.numbers.proofs.Lists.{table_take, own_table, any_map, none_any}
-use Rattle.methodology.specs.declared.Refusal.TheVariants.{Clear}
+use Rattle.methodology.specs.declared.Refusal.TheVariants.{OutOfTurn, BadOpening}
 use Rattle.methodology.specs.declared.Status.{Status}
 use Rattle.methodology.specs.declared.Status.TheVariants.{Fresh, Open, Closed}
 use Rattle.methodology.specs.declared.Opening.{Opening}
 use Rattle.methodology.specs.Account.{DayInput}
 use Rattle.methodology.specs.Day.{total, scale}
-use Rattle.methodology.specs.Refusals.{is_open, bad_opening, opening_refusal}
+use Rattle.methodology.specs.Refusals.{clear, is_open, bad_opening, opening_refusal}
 use Rattle.methodology.proofs.Passed.{passed, either, number_rises}
 use Rattle.quotient.specs.Ranges.{greatest_total}
+use Rattle.validation.specs.Passing.{Opened}
 use Rattle.validation.proofs.OpeningPasses.{opening_leaves}
 use Rattle.period.specs.declared.Period.{Period}
 use Rattle.period.specs.Calls.{fresh_period, held_by, in_range, status_of, opening_row, opened_period, accounts_brought, day_row, share_at, reported_by, sized_period, closing_row, closed_period}
@@ -25,19 +27,27 @@ use Rattle.period.specs.Follows.{Reached, fresh, by_opening, by_day, by_closing}
 use Rattle.period.proofs.Sizing.{Admits, passes_all, reported_few, share_few}
 
 -- an opening
-pub held_opened : (o : Opening) → length o.groups ≡ o.n → o.n ≤ 32 → (held_by (opened_period o)).groups ≡ o.groups
-held_opened o long few =
+pub groups_back : (o : Opening) → length o.groups ≡ o.n → o.n ≤ 32 → (held_by (opened_period o)).groups ≡ o.groups
+groups_back o long few =
     table_take (λ i. get_or o.groups i 0) 0 32 o.n 0 few ∙ sym (rw long at (own_table o.groups 0))
 
+-- row 1 lets it pass
+opening_good : (p : Period) (o : Opening) → opening_row p o ≡ clear → bad_opening o ≡ false
+unfolding opening_row opening_refusal
+opening_good p o e = (passed BadOpening (bad_opening o) clear (passed OutOfTurn (is_open (status_of p)) _ e).1).0
+
+pub opening_passed : (p : Period) (o : Opening) → opening_row p o ≡ clear → Opened o
+opening_passed p o e = opening_leaves o (opening_good p o e)
+
 opened_in_range : (o : Opening) → bad_opening o ≡ false → in_range (opened_period o) ≡ true
-unfolding in_range any
+unfolding in_range
 opened_in_range o e =
     let l = opening_leaves o e in
-    rw (held_opened o l.groups_long l.members_few, e)
+    rw (groups_back o l.groups_long l.members_few, e)
 
 -- a day that the table lets pass
 module _ (p : Period) (d : DayInput) {room : ℕ} (s : Admits p d room) (positive : 0 < total (held_by p) (accounts_brought p d)) where
-  sums_few : any (ltb ((p.accrued.days + 1) * scale)) (sized_period p d).accrued.sums ≡ false
+  sums_few : list_any (ltb ((p.accrued.days + 1) * scale)) (sized_period p d).accrued.sums ≡ false
   sums_few =
       let r = s.in_range_lem in
       any_map (ltb ((p.accrued.days + 1) * scale)) (λ i. get_or p.accrued.sums i 0 + share_at p d i) (range 0 32)
@@ -59,11 +69,10 @@ module _ (p : Period) (d : DayInput) {room : ℕ} (s : Admits p d room) (positiv
 abbrev Sound : Period → Type 0
 Sound p = is_open p.status ≡ true → in_range p ≡ true
 
-opening_sound : (p : Period) (o : Opening) → opening_row p o ≡ Clear → Sound (opened_period o)
-unfolding opening_row opening_refusal
-opening_sound p o e = λ q. opened_in_range o (passed 1 (bad_opening o) Clear (passed 2 (is_open (status_of p)) _ e).1).0
+opening_sound : (p : Period) (o : Opening) → opening_row p o ≡ clear → Sound (opened_period o)
+opening_sound p o e = λ q. opened_in_range o (opening_good p o e)
 
-day_sound : (p : Period) (d : DayInput) (room : ℕ) → day_row p d room ≡ Clear → Sound (sized_period p d)
+day_sound : (p : Period) (d : DayInput) (room : ℕ) → day_row p d room ≡ clear → Sound (sized_period p d)
 day_sound p d room e = λ q. let (t, h) = passes_all p d room e in sized_in_range p d t h
 
 not_open : (p : Period) → is_open p.status ≡ false → Sound p

@@ -13,15 +13,14 @@ use borrow.Author.Tests.{lt-ltb}
 use Rattle.numbers.specs.Lists.{range}
 use Rattle.numbers.specs.Sums.{Σ, greatest}
 use Rattle.numbers.proofs.Lists.{mem_range, range_suc, map_eq, table_at, table_take}
-use Rattle.methodology.specs.declared.Refusal.{Refusal}
-use Rattle.methodology.specs.declared.Refusal.TheVariants.{Clear, Row, RowAt}
+use Rattle.std.specs.Prelude.{Ok, Err}
 use Rattle.methodology.specs.declared.Opening.{Opening}
 use Rattle.methodology.specs.Account.{with_groups, DayInput, Account, members, accounts}
 use Rattle.methodology.specs.Member.{loss}
 use Rattle.methodology.specs.Day.{total, own_max_eul, share, dailies}
 use Rattle.methodology.specs.Contribution.{KeptDay, reported_max_eul, highest, sum_of_shares, funded, three}
 use Rattle.methodology.specs.declared.Status.{Status}
-use Rattle.methodology.specs.Refusals.{is_open, opening_refusal, before_figures, day_refusal, closing_refusal}
+use Rattle.methodology.specs.Refusals.{Verdict, clear, is_open, opening_refusal, before_figures, day_refusal, closing_refusal}
 use Rattle.methodology.specs.Register.{Call, Register, start, last_number, refusal, accept, if_accepted, step, returned, written, Answer, accepted, answer_by, answer, buffer}
 use Rattle.methodology.proofs.SoFar.{reported_is_m, reported_more}
 use Rattle.fund.proofs.Contributions.{are_contributions, is_total_funded}
@@ -31,10 +30,9 @@ use Rattle.period.specs.Reading.{answer_of}
 use Rattle.period.specs.Registered.{sum_at, period_of}
 use Rattle.period.specs.Follows.{Reached, fresh, by_opening, by_day, by_closing, Good, Follows}
 use Rattle.period.specs.Calls.{fresh_period, with_accrued, held_by, status_of, opening_row, opened_period, OpeningMeets, accounts_brought, day_row, reported_by, sized_period, DayMeets, closing_row, sums_held, charge_by, closed_period, ClosingMeets}
-use Rattle.period.proofs.Replies.{opening_passed}
 use Rattle.period.proofs.ByFields.{by_fields}
 use Rattle.period.proofs.Sizing.{passes_all}
-use Rattle.period.proofs.Reach.{held_opened, status_counts}
+use Rattle.period.proofs.Reach.{opening_passed, groups_back, status_counts}
 
 pub starts : Follows start fresh_period
 unfolding period_of highest greatest range
@@ -43,7 +41,7 @@ starts = record { is = refl; reached = fresh; good = record { groups_long = refl
 held_is : (g : Register) → Good g → held_by (period_of g) ≡ g.held
 unfolding period_of
 held_is g q =
-    ap (with_groups g.held) (held_opened g.held q.groups_long q.members_few)
+    ap (with_groups g.held) (groups_back g.held q.groups_long q.members_few)
 
 -- the sums that it holds
 sums_are : (g : Register) → Good g → sums_held (period_of g) ≡ map (sum_of_shares g.held g.days) (members g.held.n)
@@ -57,40 +55,37 @@ sums_are g q =
 
 -- ---- one call, by what the refusal table says: a refused call leaves all as it was, an accepted one leads the register and the period on
 
-by_row : (x : Refusal) {g after : Register} {p q : Period} → p ≡ period_of g → Good g → (x ≡ Clear → (q ≡ period_of after) × Good after)
+by_row : (x : Verdict) {g after : Register} {p q : Period} → p ≡ period_of g → Good g → (x ≡ clear → (q ≡ period_of after) × Good after)
     → (if_accepted x q p ≡ period_of (if_accepted x after g)) × Good (if_accepted x after g)
-by_row Clear e h f = f refl
-by_row (Row number) e h f = (e, h)
-by_row (RowAt number index) e h f = (e, h)
+by_row (Ok _) e h f = f refl
+by_row (Err met) e h f = (e, h)
 
 -- a figure, or a list of them, that only an accepted call gives
-accepted_by : {A : Type 0} (x : Refusal) (f : Register → A) (g after : Register) (w : A) → (x ≡ Clear → w ≡ f after) → (rest : A) → if_accepted x w rest ≡ if_accepted x (f (if_accepted x after g)) rest
-accepted_by Clear f g after w h rest = h refl
-accepted_by (Row number) f g after w h rest = refl
-accepted_by (RowAt number index) f g after w h rest = refl
+accepted_by : {A : Type 0} (x : Verdict) (f : Register → A) (g after : Register) (w : A) → (x ≡ clear → w ≡ f after) → (rest : A) → if_accepted x w rest ≡ if_accepted x (f (if_accepted x after g)) rest
+accepted_by (Ok _) f g after w h rest = h refl
+accepted_by (Err met) f g after w h rest = refl
 
-answer_by_lem : (x : Refusal) (f : Register → List ℕ) (g after : Register) (w : List ℕ) → (x ≡ Clear → w ≡ f after) → answer_by x w ≡ answer_by x (f (if_accepted x after g))
-answer_by_lem Clear f g after w h = ap accepted (h refl)
-answer_by_lem (Row number) f g after w h = refl
-answer_by_lem (RowAt number index) f g after w h = refl
+answer_by_lem : (x : Verdict) (f : Register → List ℕ) (g after : Register) (w : List ℕ) → (x ≡ clear → w ≡ f after) → answer_by x w ≡ answer_by x (f (if_accepted x after g))
+answer_by_lem (Ok _) f g after w h = ap accepted (h refl)
+answer_by_lem (Err met) f g after w h = refl
 
 -- the same where the period's row is the register's
-module _ (g : Register) (c : Call) (x : Refusal) (same : x ≡ refusal g c) where
-  leads : {p q after : Period} → Follows g p → after ≡ if_accepted x q p → Reached after → (x ≡ Clear → (q ≡ period_of (accept g c)) × Good (accept g c)) → Follows (step g c) after
+module _ (g : Register) (c : Call) (x : Verdict) (same : x ≡ refusal g c) where
+  leads : {p q after : Period} → Follows g p → after ≡ if_accepted x q p → Reached after → (x ≡ clear → (q ≡ period_of (accept g c)) × Good (accept g c)) → Follows (step g c) after
   unfolding step
   leads {p} {q} f d w h =
       let (i, k) = by_row (refusal g c) f.is f.good (λ e. h (same ∙ e)) in
-      record { is = d ∙ ap (λ (y : Refusal). if_accepted y q p) same ∙ i; reached = w; good = k }
+      record { is = d ∙ ap (λ (y : Verdict). if_accepted y q p) same ∙ i; reached = w; good = k }
 
-  tells : (figures : List ℕ) {told : Answer} → told ≡ answer_by x figures → (x ≡ Clear → figures ≡ returned (accept g c) c) → told ≡ answer g c
+  tells : (figures : List ℕ) {told : Answer} → told ≡ answer_by x figures → (x ≡ clear → figures ≡ returned (accept g c) c) → told ≡ answer g c
   unfolding answer step
   tells figures d h =
-      d ∙ ap (λ (y : Refusal). answer_by y figures) same ∙ answer_by_lem (refusal g c) (λ after. returned after c) g (accept g c) figures (λ e. h (same ∙ e))
+      d ∙ ap (λ (y : Verdict). answer_by y figures) same ∙ answer_by_lem (refusal g c) (λ after. returned after c) g (accept g c) figures (λ e. h (same ∙ e))
 
-  fills : (w before : List ℕ) {after : List ℕ} → after ≡ if_accepted x w before → (x ≡ Clear → w ≡ written (accept g c) c) → after ≡ buffer g c before
+  fills : (w before : List ℕ) {after : List ℕ} → after ≡ if_accepted x w before → (x ≡ clear → w ≡ written (accept g c) c) → after ≡ buffer g c before
   unfolding buffer step
   fills w before d h =
-      d ∙ ap (λ (y : Refusal). if_accepted y w before) same ∙ accepted_by (refusal g c) (λ after. written after c) g (accept g c) w (λ e. h (same ∙ e)) before
+      d ∙ ap (λ (y : Verdict). if_accepted y w before) same ∙ accepted_by (refusal g c) (λ after. written after c) g (accept g c) w (λ e. h (same ∙ e)) before
 
 -- the status that counts is open just when the register's is
 open_alike : {g : Register} {p : Period} → Follows g p → is_open (status_of p) ≡ is_open g.status
@@ -115,7 +110,7 @@ opened_is : (g : Register) (o : Opening) → opened_period o ≡ period_of (acce
 unfolding period_of accept highest greatest
 opened_is g o = ap (with_accrued (opened_period o)) (by_fields refl refl refl (no_sums o))
 
-opened_good : (g : Register) (p : Period) (o : Opening) → opening_row p o ≡ Clear → Good (accept g (Call.opening o))
+opened_good : (g : Register) (p : Period) (o : Opening) → opening_row p o ≡ clear → Good (accept g (Call.opening o))
 unfolding accept
 opened_good g p o e =
     let l = opening_passed p o e in
@@ -214,7 +209,7 @@ day_follows {g} {p} {d} {before} f m =
     let room = length before in
     let c = Call.day d room in
     let same = day_row_lem f d room in
-    let positive : day_row p d room ≡ Clear → 0 < total (held_by (period_of g)) (accounts_brought (period_of g) d) = λ e. subst (λ (p : Period). 0 < total (held_by p) (accounts_brought p d)) f.is (passes_all p d room e).1 in (
+    let positive : day_row p d room ≡ clear → 0 < total (held_by (period_of g)) (accounts_brought (period_of g) d) = λ e. subst (λ (p : Period). 0 < total (held_by p) (accounts_brought p d)) f.is (passes_all p d room e).1 in (
       leads g c (day_row p d room) same f m.period (by_day f.reached m)
           (λ e. (ap (λ (p : Period). sized_period p d) f.is ∙ sized_is g f.good d room, sized_good g f.good d room (positive e))),
       tells g c (day_row p d room) same _ m.answer

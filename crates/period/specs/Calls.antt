@@ -1,19 +1,19 @@
 -- What each call answers and leaves, by equations, from the period that it is given and its arguments: `OpeningMeets`, `DayMeets` and
 -- `ClosingMeets` are the contracts, whole. Each has an equation for the answer, one for the period, and one for the buffer if it is lent one.
-use Rattle.std.specs.Prelude.{Bool, not, ◌&&◌, cond, ◌≡◌, ℕ, ◌+◌, ◌*◌, max, leb, ltb, length, take, replicate}
+use Rattle.std.specs.Prelude.{Bool, not, ◌&&◌, cond, ◌≡◌, ℕ, ◌+◌, ◌*◌, max, leb, ltb, eqb, length, take, replicate}
 use mathlib.Core.List.{List, [], ◌∷◌, flat_map}
-use Rattle.numbers.specs.Lists.{any}
+use Rattle.std.specs.List.{list_any}
 use Rattle.numbers.specs.Sums.{Σ}
 use Rattle.methodology.specs.declared.Status.{Status}
 use Rattle.methodology.specs.declared.Status.TheVariants.{Fresh, Open, Closed}
-use Rattle.methodology.specs.declared.Refusal.{Refusal}
+use Rattle.methodology.specs.declared.Refusal.TheVariants.{OutOfTurn, BadLengths}
 use Rattle.methodology.specs.declared.Opening.{Opening}
 use Rattle.methodology.specs.declared.DayTerms.{DayTerms}
 use Rattle.methodology.specs.Account.{no_opening, DayInput, Account, accounts}
 use Rattle.methodology.specs.Member.{loss}
 use Rattle.methodology.specs.Day.{total, own_max_eul, scale, share, dailies}
 use Rattle.methodology.specs.Contribution.{charge, funded, three}
-use Rattle.methodology.specs.Refusals.{bad_opening, opening_refusal, day_refusal, closing_refusal}
+use Rattle.methodology.specs.Refusals.{Verdict, clear, row◌when◌else◌, is_open, bad_opening, opening_refusal, day_refusal, closing_refusal}
 use Rattle.methodology.specs.Register.{if_accepted, answer_by}
 use Rattle.quotient.specs.Ranges.{greatest_total}
 use Rattle.validation.specs.Slices.{in_places, listed}
@@ -47,7 +47,7 @@ in_range p =
     && leb p.accrued.days p.accrued.last
     && leb p.accrued.highest greatest_total
     && not (bad_opening (held_by p))
-    && not (any (ltb (p.accrued.days * scale)) p.accrued.sums)
+    && not (list_any (ltb (p.accrued.days * scale)) p.accrued.sums)
 
 -- The status that counts. A period that is out of range counts as closed, and so does a fresh one (its n is 0), which no row tells from a
 -- closed one. No open period that calls returned is out of range: `status_counts` in proofs/Reach.antt.
@@ -57,7 +57,7 @@ status_of p = cond (in_range p) p.status Closed
 -- ---- opening
 
 -- the refusal table, read with what the period holds
-unfoldable pub opening_row : Period → Opening → Refusal
+unfoldable pub opening_row : Period → Opening → Verdict
 opening_row p o = opening_refusal (status_of p) o
 
 -- the period after an accepted opening
@@ -68,13 +68,17 @@ pub record OpeningMeets (p : Period) (o : Opening) (r : Reply) : Type 0 where
   pub answer : answer_of r.outcome ≡ answer_by (opening_row p o) []
   pub period : r.period ≡ if_accepted (opening_row p o) (opened_period o) p
 
+-- rows 2 and 4 of a day or a closing, whose output is `room` long, where `each` numbers a member are due
+unfoldable pub output_row : Period → (each room : ℕ) → Verdict
+output_row p each room = row OutOfTurn when not (is_open (status_of p)) else row BadLengths when not (eqb room (each * p.held.n)) else clear
+
 -- ---- day
 
 -- the accounts of a day that a call brings
 abbrev pub accounts_brought : Period → DayInput → List Account
 accounts_brought p d = accounts p.held.k d
 
-unfoldable pub day_row : Period → DayInput → (room : ℕ) → Refusal
+unfoldable pub day_row : Period → DayInput → (room : ℕ) → Verdict
 day_row p d room = day_refusal (status_of p) (held_by p) p.accrued.last d room
 
 -- what an accepted day adds to the sum in place i: member i + 1's share
@@ -111,7 +115,7 @@ pub record DayMeets (p : Period) (d : DayInput) (before : List ℕ) (r : Reply) 
 
 -- ---- closing
 
-unfoldable pub closing_row : Period → (room : ℕ) → Refusal
+unfoldable pub closing_row : Period → (room : ℕ) → Verdict
 closing_row p room = closing_refusal (status_of p) (held_by p) room
 
 -- the sums of the members' shares, and the raw charge for one of them

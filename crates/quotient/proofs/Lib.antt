@@ -1,1 +1,2 @@
+pub mod DivCeil
 pub mod QuotientBounds

@@ -2,19 +2,24 @@
 -- Past the buffer's end nothing is stored wherever one starts, so the index one above its length stands for all of them.
 use mathlib.Core.Path.{◌≡◌, refl, sym, ap, ◌∙◌}
 use mathlib.Core.Bool.{Bool, true, false}
-use mathlib.Core.List.{List, [], ◌∷◌, ◌++◌, flat_map, append-nil}
+use mathlib.Core.List.{List, [], ◌∷◌, ◌++◌, flat_map, append-nil, append_assoc}
 use Prim.Native.Nat.{ℕ, suc, ◌+◌, ◌-◌, ◌*◌, ◌≤◌, ◌<◌, min}
 use native.Mathlib.Nat.{add-zero}
 use native.Mathlib.Numerals.{add-one}
 use native.Mathlib.Omega.{arith}
 use lib.Dec.{leb}
 use lib.ListN.{length, get_or, take, drop, set, length-append, length-set}
-use lib.Seq.{sets, set_out, length-sets, sets-eq, take-suc, take_at}
+use lib.Seq.{sets, set_out, length-sets, drop-drop, length-take-le, take-suc, take_at}
 use borrow.Author.Tests.{leb-true, leb-false}
+use borrow.Rule.Slice.PartMut.{put_mid}
+use Rattle.std.proofs.lemmas.List.{take-append-drop}
+use Rattle.std.proofs.lemmas.List.Edits.{sets-eq}
 use Rattle.numbers.proofs.Lists.{upto_more}
 use Rattle.numbers.proofs.Rows.{flat_map_append}
 use Rattle.methodology.specs.Text.{printed, rows}
+use Rattle.report.specs.declared.Printer.{Printer}
 use Rattle.report.specs.Put.{Put}
+use Rattle.report.specs.Prints.{Prints}
 
 -- ---- stored elements
 
@@ -40,12 +45,30 @@ pub put_length : {d e : List ℕ} {at r : ℕ} {s : List ℕ} → Put d at s e r
 put_length {d} {e} {at} {r} {s} a = ap length a.bytes ∙ length-sets d at s
 
 -- no text
-pub put_none : (d : List ℕ) (at : ℕ) → at ≤ length d + 1 → Put d at [] d at
+put_none : (d : List ℕ) (at : ℕ) → at ≤ length d + 1 → Put d at [] d at
 put_none d at h = record { bytes = refl; next = omega arith }
 
 -- text that finds no room
-pub put_out : (d : List ℕ) (at : ℕ) (s : List ℕ) → length d < at → Put d at s d (length d + 1)
-put_out d at s h = record { bytes = sym (sets_out d at s (omega arith)); next = omega arith }
+pub put_out : (d : List ℕ) (at : ℕ) (s : List ℕ) → at ≤ length d + 1 → length d < at → Put d at s d at
+put_out d at s h k = record { bytes = sym (sets_out d at s (omega arith)); next = omega arith }
+
+-- text put over a part of the buffer: all of it, or what has room up to the buffer's end
+over : (d s : List ℕ) (at : ℕ) → at + length s ≤ length d → sets d at s ≡ put_mid at (length s) d s
+over d s at h = sets-eq s d at h ∙ rw (append_assoc, drop-drop)
+
+pub put_whole : (d s t : List ℕ) (at k : ℕ) → t ≡ s → k ≡ length s → at + k ≤ length d → Put d at s (put_mid at k d t) (at + k)
+put_whole d s t at k e n h = record { bytes = rw (e, n) (sym (over d s at (omega arith))); next = omega arith }
+
+pub put_cut : (d s t : List ℕ) (at k : ℕ) → t ≡ take k s → k < length s → at + k ≡ length d → Put d at s (put_mid at k d t) (length d + 1)
+put_cut d s t at k e n h =
+    let few : length (take k s) ≡ k = length-take-le k s (omega arith) in
+    let front = sets d at (take k s) in
+    let full : length front ≤ at + length (take k s) = omega (arith, few, length-sets d at (take k s)) in
+    let all : sets d at (take k s ++ drop k s) ≡ front =
+    sets_append d at (take k s) (drop k s) ∙ sets_out front (at + length (take k s)) (drop k s) full in
+    let done : sets d at s ≡ put_mid at k d t =
+    (rw take-append-drop at all) ∙ over d (take k s) at (omega (arith, few)) ∙ rw (few, e) in
+    record { bytes = sym done; next = omega arith }
 
 -- a text, and another after it
 pub put_then : {d e f : List ℕ} {at p r : ℕ} {s t : List ℕ} → Put d at s e p → Put e p t f r → Put d at (s ++ t) f r
@@ -64,25 +87,27 @@ put_all {d} {e} {r} {s} a h =
     let n : length s ≡ r = omega (arith, a.next) in
     ap (take r) (a.bytes ∙ sets-eq s d 0 (omega arith)) ∙ take_at s (drop (0 + length s) d) r n
 
--- ---- a part more
+-- ---- printers
 
-module _ {d e f : List ℕ} {at p r : ℕ} where
-  -- a byte of s
-  pub put_byte_more : (s : List ℕ) (i : ℕ) → i < length s → Put d at (take i s) e p → Put e p (get_or s i 0 ∷ []) f r → Put d at (take (i + 1) s) f r
-  put_byte_more s i h a b = rw (add-one, take-suc s i 0 h) (put_then a b)
+pub prints_none : (p : Printer) → Prints p [] p
+prints_none p = record { put = put_none p.out.now p.at p.within; same_buffer = refl }
 
-  -- the text of a number of xs
-  pub put_field_more : (g : ℕ → List ℕ) (xs : List ℕ) (i : ℕ) → i < length xs
-      → Put d at (flat_map g (take i xs)) e p → Put e p (g (get_or xs i 0)) f r → Put d at (flat_map g (take (i + 1) xs)) f r
+pub prints_then : {p q r : Printer} {s t : List ℕ} → Prints p s q → Prints q t r → Prints p (s ++ t) r
+prints_then a b = record { put = put_then a.put b.put; same_buffer = b.same_buffer ∙ a.same_buffer }
+
+module _ {p q r : Printer} where
+  -- a number of xs more
+  pub prints_number_more : (g : ℕ → List ℕ) (xs : List ℕ) (i : ℕ) → i < length xs
+      → Prints p (flat_map g (take i xs)) q → Prints q (g (get_or xs i 0)) r → Prints p (flat_map g (take (i + 1) xs)) r
   unfolding flat_map
-  put_field_more g xs i h a b = rw (add-one, take-suc xs i 0 h, flat_map_append, append-nil) (put_then a b)
+  prints_number_more g xs i h a b = rw (add-one, take-suc xs i 0 h, flat_map_append, append-nil) (prints_then a b)
 
-  -- the line of member m + 1
-  pub put_row_more : (word : List ℕ) (width m : ℕ) (figures : List ℕ)
-      → Put d at (rows word width m figures) e p
-      → Put e p (printed word ((m + 1) ∷ take width (drop (width * m) figures))) f r
-      → Put d at (rows word width (m + 1) figures) f r
+  -- the line of member m + 1 more
+  pub prints_row_more : (word : List ℕ) (width m : ℕ) (figures : List ℕ)
+      → Prints p (rows word width m figures) q
+      → Prints q (printed word ((m + 1) ∷ take width (drop (width * m) figures))) r
+      → Prints p (rows word width (m + 1) figures) r
   unfolding rows flat_map
-  put_row_more word width m figures a b =
+  prints_row_more word width m figures a b =
       let z : m + 1 - 1 ≡ m = omega arith in
-      rw (upto_more m, flat_map_append, append-nil, z) (put_then a b)
+      rw (upto_more m, flat_map_append, append-nil, z) (prints_then a b)

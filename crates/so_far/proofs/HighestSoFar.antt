@@ -6,17 +6,19 @@ use mathlib.Core.List.{List, [], ◌∷◌, ◌++◌, map, map-append, flat_map}
 use Prim.Native.Nat.{ℕ, ◌*◌, ◌≤◌, ◌<◌, max}
 use native.Mathlib.Omega.{arith}
 use lib.ListN.{length, get_or}
+use Rattle.std.proofs.lemmas.List.Folds.{fold-map}
+use Rattle.std.proofs.lemmas.List.Sums.{fold-append}
 use Rattle.numbers.specs.Lists.{Every}
 use Rattle.numbers.specs.Sums.{greatest}
 use Rattle.numbers.specs.Rounding.{round_div}
 use Rattle.numbers.proofs.Rounding.{round_above, round_below}
 use Rattle.numbers.proofs.Sums.{greatest_map}
-use Rattle.methodology.specs.declared.Refusal.TheVariants.{Clear}
 use Rattle.methodology.specs.declared.Opening.{Opening}
 use Rattle.methodology.specs.Account.{DayInput, members, accounts}
 use Rattle.methodology.specs.Member.{loss}
 use Rattle.methodology.specs.Day.{total, own_max_eul, value, reserve, estimate, five, dailies}
 use Rattle.methodology.specs.Contribution.{KeptDay, reported_max_eul, highest}
+use Rattle.methodology.specs.Refusals.{clear}
 use Rattle.methodology.specs.Register.{Call, Register, start, last_number, refusal, accept, step, returned, written, accepted, answer, buffer}
 use Rattle.methodology.proofs.Passed.{loss_stands, step_clear, opened_anew}
 use Rattle.methodology.proofs.SoFar.{reported_is_m, reported_more}
@@ -24,11 +26,11 @@ use Rattle.fund.proofs.RawCharge.{highest_none}
 use Rattle.period.specs.Reading.{answer_of}
 use Rattle.demand3.specs.Made.{Asked, Made, call_of}
 use Rattle.demand3.specs.Demand3.{Holds, register_after, Fits64}
-use Rattle.demand3.proofs.EveryList.{holds_from, last_agrees, from_answers_lem, from_answers_more}
+use Rattle.demand3.proofs.EveryList.{holds_from, last_agrees, from_answers_lem}
 use Rattle.demand3.proofs.Demand3.{made_of}
-use Rattle.demand3.proofs.Demand3Proved.{demand_3}
+use Rattle.demand3.proofs.Demand3Proved.{demand_3, compiled_holds}
 use Rattle.answers.proofs.RefusalRows.{is_clear}
-use Rattle.as_printed.specs.AsPrinted.{register_fed, AcceptedFits}
+use Rattle.as_printed.specs.AsPrinted.{AcceptedFits}
 use Rattle.as_printed.proofs.EveryReport.{as_printed}
 use Rattle.so_far.specs.HighestSoFar.{owns, reports, MIsTheSame, Nearest, note_accepted, noted, DayReports, opened_by, HighestSoFar}
 
@@ -90,18 +92,14 @@ noted_are = from_answers_lem note_accepted (λ g. reports g.held g.days) accepte
 
 -- ---- the last call of a list of which demand 3 holds
 
-fed : (g : Register) (cs : List Made) → register_fed g (map (λ c. call_of c.asked) cs) ≡ register_after g cs
-fed g [] = refl
-fed g (c ∷ cs) = fed (step g (call_of c.asked)) cs
-
-call_fits : (cs : List Made) (call : Call) → refusal (register_after start cs) call ≡ Clear → AcceptedFits (step (register_after start cs) call) call
+call_fits : (cs : List Made) (call : Call) → refusal (register_after start cs) call ≡ clear → AcceptedFits (step (register_after start cs) call) call
 call_fits cs call =
-    subst (λ (g : Register). refusal g call ≡ Clear → AcceptedFits (step g call) call) (fed start cs)
+    subst (λ (g : Register). refusal g call ≡ clear → AcceptedFits (step g call) call) (fold-map step (λ c. call_of c.asked) start cs)
     (as_printed.accepted_fits (map (λ c. call_of c.asked) cs) call)
 
-some_loss : (g : Register) (d : DayInput) (room : ℕ) → refusal g (Call.day d room) ≡ Clear → 0 < total g.held (accounts g.held.k d)
+some_loss : (g : Register) (d : DayInput) (room : ℕ) → refusal g (Call.day d room) ≡ clear → 0 < total g.held (accounts g.held.k d)
 unfolding refusal
-some_loss g d room clear = (loss_stands g.status g.held (last_number g.days) d room clear).1
+some_loss g d room passes = (loss_stands g.status g.held (last_number g.days) d room passes).1
 
 of_day : (cs : List Made) (c : Made) (d : DayInput) (out : List ℕ) (T Max : ℕ) → Holds start (cs ++ (c ∷ []))
     → c.asked ≡ Asked.day d out → answer_of c.reply.outcome ≡ accepted (T ∷ Max ∷ [])
@@ -115,22 +113,22 @@ of_day cs c d out T Max holds is said =
     let kept : KeptDay = record { number = d.terms.number; accounts = accts } in
     let agreed = last_agrees start cs c holds in
     let answered : answer g call ≡ accepted (T ∷ Max ∷ []) = rw is at (sym agreed.answer ∙ said) in
-    let (clear, same) = is_clear (refusal g call) _ _ answered in
-    let left = step_clear g call clear in
+    let (passes, same) = is_clear (refusal g call) _ _ answered in
+    let left = step_clear g call passes in
     let told : total o accts ∷ reported_max_eul o (kept ∷ g.days) ∷ [] ≡ T ∷ Max ∷ [] = ap (λ (x : Register). returned x call) (sym left) ∙ same in
-    let wrote : c.after ≡ written (step g call) call = agreed.buffer ∙ rw (is, clear) in
+    let wrote : c.after ≡ written (step g call) call = agreed.buffer ∙ rw (is, passes) in
     let reported : Max ≡ reported_max_eul o (kept ∷ g.days) = sym (ap (λ (l : List ℕ). get_or l 1 0) told) in
     let notes : noted cs ≡ reports o g.days = noted_are cs (c ∷ []) holds in
     let M = m_is_the_same_lem o g.days in
     let so_far : Max ≡ max (own_max_eul o accts) (get_or (noted cs) 0 0) = rw notes (reported ∙ omega (arith, reported_more o kept g.days, M.last_reported)) in
-    let fit = call_fits cs call clear in
+    let fit = call_fits cs call passes in
     record {
       max_is = reported ∙ omega (arith, reported_more o kept g.days, M.highest_own);
       so_far = so_far;
       first_is_own = λ none. let last : get_or (noted cs) 0 0 ≡ 0 = rw none refl in omega (arith, so_far);
       at_least_own = rw reported (at_least_own o kept g.days);
       never_falls = rw (reported, notes) (never_falls o kept g.days);
-      t_above = subst (λ (T : ℕ). 0 < T) (ap (λ (l : List ℕ). get_or l 0 0) told) (some_loss g d (length out) clear);
+      t_above = subst (λ (T : ℕ). 0 < T) (ap (λ (l : List ℕ). get_or l 0 0) told) (some_loss g d (length out) passes);
       t_is = sym (ap (λ (l : List ℕ). get_or l 0 0) told);
       writes =
           wrote ∙ ap (λ (x : Register). written x call) left
@@ -148,8 +146,8 @@ of_closing cs c out D M funds holds is said =
     let g = register_after start cs in
     let call = Call.closing (length out) in
     let answered : answer g call ≡ accepted (D ∷ M ∷ funds ∷ []) = rw is at (sym (last_agrees start cs c holds).answer ∙ said) in
-    let (clear, same) = is_clear (refusal g call) _ _ answered in
-    let kept = ap (λ (x : Register). highest x.held x.days) (step_clear g call clear) in
+    let (passes, same) = is_clear (refusal g call) _ _ answered in
+    let kept = ap (λ (x : Register). highest x.held x.days) (step_clear g call passes) in
     let m_is : highest g.held g.days ≡ M = sym kept ∙ ap (λ (l : List ℕ). get_or l 1 0) same in
     let notes = sym (noted_are cs (c ∷ []) holds) in
     subst (MIsTheSame (owns g.held g.days) (noted cs)) m_is
@@ -158,15 +156,15 @@ of_closing cs c out D M funds holds is said =
 -- ---- an accepted opening
 
 begins_anew : (cs : List Made) (a : Made) (rest : List Made) (o : Opening) → Holds start (cs ++ (a ∷ rest))
-    → a.asked ≡ Asked.opening o → refusal (register_after start cs) (Call.opening o) ≡ Clear
+    → a.asked ≡ Asked.opening o → refusal (register_after start cs) (Call.opening o) ≡ clear
     → Holds (opened_by o) rest × (noted (cs ++ (a ∷ rest)) ≡ noted rest)
 unfolding answer returned
-begins_anew cs a rest o holds is clear =
+begins_anew cs a rest o holds is passes =
     let g = register_after start cs in
     let (agreed, _, after) = holds_from start cs (a ∷ rest) holds in
-    let left : step g (call_of a.asked) ≡ opened_by o = rw is (opened_anew g o clear) in
-    let said : answer_of a.reply.outcome ≡ accepted [] = agreed.answer ∙ rw (is, clear) in
-    (subst (λ (g : Register). Holds g rest) left after, from_answers_more note_accepted [] cs (a ∷ rest) ∙ rw (said, is))
+    let left : step g (call_of a.asked) ≡ opened_by o = rw is (opened_anew g o passes) in
+    let said : answer_of a.reply.outcome ≡ accepted [] = agreed.answer ∙ rw (is, passes) in
+    (subst (λ (g : Register). Holds g rest) left after, fold-append _ [] cs (a ∷ rest) ∙ rw (said, is))
 
 -- ---- the claim
 
@@ -183,16 +181,12 @@ highest_so_far =
       begins_anew = λ cs a rest o made. begins_anew cs a rest o (demand_3.every_list (cs ++ (a ∷ rest)) made);
       compiled_day =
           λ 𝓛 mem run cs c d out T Max from.
-          let holds = demand_3.compiled_lists 𝓛 mem run (cs ++ (c ∷ [])) from in
-          of_day (map made_of cs) (made_of c) d out T Max (subst (Holds start) (map-append made_of cs (c ∷ [])) holds);
+          of_day (map made_of cs) (made_of c) d out T Max (compiled_holds 𝓛 mem run cs (c ∷ []) from);
       compiled_closing =
           λ 𝓛 mem run cs c out D M funds from.
-          let holds = demand_3.compiled_lists 𝓛 mem run (cs ++ (c ∷ [])) from in
-          of_closing (map made_of cs) (made_of c) out D M funds (subst (Holds start) (map-append made_of cs (c ∷ [])) holds);
+          of_closing (map made_of cs) (made_of c) out D M funds (compiled_holds 𝓛 mem run cs (c ∷ []) from);
       compiled_anew =
-          λ 𝓛 mem run cs a rest o from is clear.
-          let same = map-append made_of cs (a ∷ rest) in
-          let holds = subst (Holds start) same (demand_3.compiled_lists 𝓛 mem run (cs ++ (a ∷ rest)) from) in
-          let (after, notes) = begins_anew (map made_of cs) (made_of a) (map made_of rest) o holds is clear in
-          (after, ap noted same ∙ notes);
+          λ 𝓛 mem run cs a rest o from is passes.
+          let (after, notes) = begins_anew (map made_of cs) (made_of a) (map made_of rest) o (compiled_holds 𝓛 mem run cs (a ∷ rest) from) is passes in
+          (after, ap noted (map-append made_of cs (a ∷ rest)) ∙ notes);
     }

@@ -12,12 +12,12 @@ use contract.Monad.{Fun}
 use Rattle.numbers.specs.Lists.{Every}
 use Rattle.numbers.specs.Sums.{greatest}
 use Rattle.methodology.specs.declared.Status.TheVariants.{Open}
-use Rattle.methodology.specs.declared.Refusal.TheVariants.{Clear}
 use Rattle.methodology.specs.declared.Opening.{Opening}
 use Rattle.methodology.specs.Account.{DayInput, members, accounts}
 use Rattle.methodology.specs.Member.{loss}
 use Rattle.methodology.specs.Day.{total, own_max_eul, value, reserve, estimate, five}
 use Rattle.methodology.specs.Contribution.{KeptDay, reported_max_eul, highest}
+use Rattle.methodology.specs.Refusals.{clear}
 use Rattle.methodology.specs.Register.{Call, Register, start, refusal, accepted}
 use Rattle.period.specs.Reading.{answer_of}
 use Rattle.period.specs.Calls.{fresh_period}
@@ -104,7 +104,7 @@ pub record HighestSoFar : Type 2 where
   -- An accepted opening begins anew: of the calls after it demand 3 holds from a register that knows this opening alone, and what is noted
   -- then is noted of these calls alone. So the first accepted day reports its own (`first_is_own` in `DayReports`).
   pub begins_anew : (cs : List Made) (a : Made) (rest : List Made) (o : Opening) → MadeOn fresh_period (cs ++ (a ∷ rest))
-      → a.asked ≡ Asked.opening o → refusal (register_after start cs) (Call.opening o) ≡ Clear
+      → a.asked ≡ Asked.opening o → refusal (register_after start cs) (Call.opening o) ≡ clear
       → Holds (opened_by o) rest × (noted (cs ++ (a ∷ rest)) ≡ noted rest)
   -- every list of compiled calls, as demand 3 has them
   pub compiled_day :
@@ -121,5 +121,5 @@ pub record HighestSoFar : Type 2 where
   pub compiled_anew :
       {R : Type 1} {𝓤 : Ura R} (𝓛 : Logic 𝓤) (mem : Memory → SProp 𝓤) (run : Routine → Fun 𝓤)
       (cs : List Called) (a : Called) (rest : List Called) (o : Opening) → FromFresh 𝓛 mem run (cs ++ (a ∷ rest))
-      → (made_of a).asked ≡ Asked.opening o → refusal (register_after start (map made_of cs)) (Call.opening o) ≡ Clear
+      → (made_of a).asked ≡ Asked.opening o → refusal (register_after start (map made_of cs)) (Call.opening o) ≡ clear
       → Holds (opened_by o) (map made_of rest) × (noted (map made_of (cs ++ (a ∷ rest))) ≡ noted (map made_of rest))

@@ -1,57 +1,61 @@
--- Row 6: the limits of an NPV, and the search for the first account with a bad amount.
--- The slices hold each account's amounts, so a test of them is a test of the account.
-use mathlib.Core.Path.{◌≡◌, sym, ◌∙◌, subst}
-use mathlib.Core.Bool.{Bool, true, false, not, ◌||◌, or-true}
-use mathlib.Core.List.{List}
-use Prim.Native.Nat.{ℕ, ◌+◌, ◌*◌, ◌≤◌, ◌<◌}
+-- Row 6: what it leaves of an NPV, the tests of the account at an index of a day, and the search for the first account with a bad amount.
+-- The search says what is left: the first such account is i further on than that of the accounts from i on.
+use mathlib.Core.Path.{◌≡◌, ◌∙◌}
+use mathlib.Core.Bool.{Bool, true, false, ◌||◌}
+use Prim.Native.Nat.{ℕ, ◌+◌, ◌-◌, ◌*◌, ◌≤◌, ◌<◌}
+use native.Mathlib.Nat.{zero-add}
 use native.Mathlib.Omega.{arith}
-use lib.Dec.{T, ltb}
-use lib.IntN.{ℤ, pos, neg_ℤ, nat_abs}
-use lib.Signed.{◌≤ℤ◌, ◌<ℤ◌, lt_z, lt_z_no}
+use lib.Dec.{ltb}
+use lib.IntN.{ℤ, nat_abs}
 use lib.ListN.{length, get_or, take, drop}
-use Rattle.numbers.specs.Lists.{any, first_where}
-use Rattle.numbers.proofs.Tests.{neither}
-use Rattle.numbers.proofs.Signed.{signed, abs_is, one_zero, is_lt, not_lt}
-use Rattle.numbers.proofs.Lists.{first_is}
-use Rattle.methodology.specs.Account.{Account}
+use Rattle.std.specs.List.{list_any}
+use Rattle.std.proofs.lemmas.Bool.Decides.{nat_tests}
+use Rattle.std.proofs.lemmas.Int.{ints}
+use Rattle.numbers.specs.Lists.{first_where}
+use Rattle.numbers.proofs.Lists.{table_at, first_more, first_stop, first_end}
+use Rattle.methodology.specs.Account.{DayInput, account_at, accounts}
 use Rattle.methodology.specs.Refusals.{limit, outside, npv_outside, bad_amount}
-use Rattle.validation.specs.Slices.{none, Amounts}
+use Rattle.methodology.proofs.RowLimits.{accounts_long}
+use Rattle.validation.specs.Slices.{none}
 
--- an NPV below, above and within its limits
-abbrev pub lowest : ℤ
-lowest = neg_ℤ (pos limit)
+-- an NPV within its limits
+pub npv_limit : (z : ℤ) → npv_outside z ≡ false → nat_abs z ≤ limit
+npv_limit z e = grind (arith, ints, nat_tests)
 
-abbrev pub highest : ℤ
-highest = pos limit
+module _ (k : ℕ) (d : DayInput) (i : ℕ) where
+  -- the account at an index of a day, and its tests
+  pub accounts_at : i < length d.headings → get_or (accounts k d) i none ≡ account_at k d i
+  unfolding accounts
+  accounts_at l = table_at (account_at k d) 0 (length d.headings) i none l ∙ rw zero-add
 
-module _ (z : ℤ) where
-  pub npv_below : z <ℤ lowest → npv_outside z ≡ true
-  npv_below h = rw (is_lt h)
+  pub bad_amount_at : i < length d.headings → bad_amount (get_or (accounts k d) i none)
+      ≡ (list_any npv_outside (take (k + 1) (drop (i * (k + 1)) d.npvs))
+      || outside 0 limit (get_or d.margins i 0)
+      || ltb (get_or d.margins i 0) (get_or d.extras i 0))
+  unfolding bad_amount account_at
+  bad_amount_at l = rw (accounts_at l)
 
-  pub npv_above : highest <ℤ z → npv_outside z ≡ true
-  npv_above h = rw (is_lt h, or-true)
+  -- the search: one account further, at a bad one, and at the end; the row of account i is lent from its start to its end
+  abbrev bad_lent : Bool
+  bad_lent =
+      list_any npv_outside (take (i * (k + 1) + (k + 1) - i * (k + 1)) (drop (i * (k + 1)) d.npvs))
+      || outside 0 limit (get_or d.margins i 0)
+      || ltb (get_or d.margins i 0) (get_or d.extras i 0)
 
-  pub npv_inside : lowest ≤ℤ z → z ≤ℤ highest → npv_outside z ≡ false
-  npv_inside h k = rw (not_lt h, not_lt k)
+  abbrev left : Type 0
+  left = first_where bad_amount (accounts k d) ≡ i + first_where bad_amount (drop i (accounts k d))
 
-  pub npv_limit : npv_outside z ≡ false → nat_abs z ≤ limit
-  npv_limit e =
-      let (low, high) = neither (lt_z z lowest) (lt_z highest z) e in
-      let a : lowest ≤ℤ z = lt_z_no (subst (λ (t : Bool). T (not t)) (sym low) tt) in
-      let b : z ≤ℤ highest = lt_z_no (subst (λ (t : Bool). T (not t)) (sym high) tt) in
-      omega (arith, signed, abs_is z, one_zero z)
+  lent : i < length d.headings → {b : Bool} → bad_lent ≡ b → bad_amount (get_or (accounts k d) i none) ≡ b
+  lent l e =
+      let wide : i * (k + 1) + (k + 1) - i * (k + 1) ≡ k + 1 = omega arith in
+      bad_amount_at l ∙ rw wide at e
 
--- whether the amounts of account i are bad, as the slices hold them
-abbrev pub bad_at : (k : ℕ) → (npvs : List ℤ) → (margins extras : List ℕ) → (i : ℕ) → Bool
-bad_at k npvs margins extras i =
-    any npv_outside (take (k + 1) (drop (i * (k + 1)) npvs)) || outside 0 limit (get_or margins i 0) || ltb (get_or margins i 0) (get_or extras i 0)
+  pub amount_more : i < length d.headings → bad_lent ≡ false → left
+      → first_where bad_amount (accounts k d) ≡ (i + 1) + first_where bad_amount (drop (i + 1) (accounts k d))
+  amount_more l e s = first_more bad_amount (accounts k d) i none (omega (arith, accounts_long k d)) (lent l e) s
 
-module _ {k : ℕ} {npvs : List ℤ} {margins extras : List ℕ} {accts : List Account} (all : Amounts k npvs margins extras accts) where
-  pub bad_at_lem : (i : ℕ) → i < length accts → bad_amount (get_or accts i none) ≡ bad_at k npvs margins extras i
-  unfolding bad_amount
-  bad_at_lem i l = rw (all.npvs_at i l, all.margin_at i l, all.extra_at i l)
+  pub amount_stop : i < length d.headings → bad_lent ≡ true → left → first_where bad_amount (accounts k d) ≡ i
+  amount_stop l e s = first_stop bad_amount (accounts k d) i none (omega (arith, accounts_long k d)) (lent l e) s
 
-  pub first_bad : (i : ℕ) → i ≤ length margins → ((j : ℕ) → j < i → bad_at k npvs margins extras j ≡ false) → (i < length margins → bad_at k npvs margins extras i ≡ true) → i ≡ first_where bad_amount accts
-  first_bad i h f g =
-      let e = all.margins_long in
-      sym (first_is bad_amount accts i none (omega arith) (λ j l. bad_at_lem j (omega arith) ∙ f j l) (λ l. bad_at_lem i l ∙ g (omega arith)))
+  pub amount_end : length d.headings ≤ i → left → first_where bad_amount (accounts k d) ≡ i
+  amount_end l s = first_end bad_amount (accounts k d) i (omega (arith, accounts_long k d)) s

@@ -1,5 +1,5 @@
 -- What the refusal table leaves of an opening and of a day, in facts instead of tests.
-use Rattle.std.specs.Prelude.{◌≡◌, false, List, ℕ, ◌+◌, ◌*◌, ◌≤◌, ◌<◌, ℤ, length, get_or}
+use Rattle.std.specs.Prelude.{◌≡◌, false, ℕ, ◌+◌, ◌*◌, ◌≤◌, ◌<◌, length, get_or}
 use Rattle.numbers.specs.Lists.{first_where}
 use Rattle.methodology.specs.declared.Opening.{Opening}
 use Rattle.methodology.specs.Account.{DayInput, accounts, nobody}
@@ -31,8 +31,8 @@ pub record Passes (o : Opening) (last : ℕ) (d : DayInput) : Type 0 where
   pub complete : last_missing o.n d.headings ≡ false
   pub amounts : first_where bad_amount (accounts o.k d) ≡ length d.headings
 
--- rows 4 to 6, of a day in plain slices
-pub record Passed (o : Opening) (members kinds : List ℕ) (npvs : List ℤ) (margins extras : List ℕ) : Type 0 where
-  pub within : Within o.k kinds npvs margins extras
-  pub rising : Rising members
-  pub most : (i : ℕ) → i < length members → get_or members i 0 ≤ o.n
+-- rows 4 to 6, of its slices
+pub record Passed (o : Opening) (d : DayInput) : Type 0 where
+  pub within : Within o.k d.headings d.npvs d.margins d.extras
+  pub rising : Rising d.headings
+  pub most : (i : ℕ) → i < length d.headings → (get_or d.headings i nobody).member ≤ o.n

@@ -1,185 +1,129 @@
-// The rows of the refusal table that go by a call's arguments: those of a day in plain slices here, and the limits of rows 1, 3 and 4. Any
+// The rows of the refusal table that go by a call's arguments: those of a day as it is brought here, and the limits of rows 1, 3 and 4. Any
 // numbers may come in: a wrong one is an answer.
 #![tactic(auto)]
 
 pub mod limits;
 
-ghost use Rattle.std.specs.Prelude.{◌≡◌, ◌||◌, List, ℕ, ◌+◌, ◌*◌, ◌≤◌, ltb, length};
-ghost use Rattle.numbers.specs.Lists.{any, first_where};
-ghost use Rattle.methodology.specs.Account.{Account, nobody};
-ghost use Rattle.methodology.specs.Refusals.{member_outside, not_rising, number_above, kind_unknown, zero_and_house_apart, first_not_zero, member_skipped, bad_heading, first_bad_heading, last_missing, limit, npv_outside, outside, bad_amount, account_rows, day_rows};
-ghost use Rattle.validation.specs.Slices.{headings, plain_day, Even, listed, Amounts};
+ghost use Rattle.std.specs.Prelude.{◌≡◌, ◌||◌, ◌+◌, ◌*◌, ◌≤◌, ltb, length};
+ghost use Rattle.std.specs.Bool.{then_some};
+ghost use Rattle.std.specs.List.{list_any};
+ghost use Rattle.numbers.specs.Lists.{first_where};
+ghost use Rattle.methodology.specs.Account.{accounts, nobody};
+ghost use Rattle.methodology.specs.Brought.{day_brought};
+ghost use Rattle.methodology.specs.Refusals.{member_outside, not_rising, number_above, kind_unknown, zero_and_house_apart, first_not_zero, member_skipped, bad_heading, first_bad_heading, last_missing, limit, npv_outside, outside as outside_limits, bad_amount, account_rows, day_rows};
+ghost use Rattle.validation.specs.Slices.{listed};
 
-use crate::limits::{bad_day_number, bad_input};
-use methodology::{DayTerms, Heading, KIND_H, KIND_U, Opening, Refusal};
+use crate::limits::{bad_day_number, bad_input, outside};
+use methodology::{Day, Heading, KIND_H, KIND_U, Opening, Refusal};
+use std::cmp::Ordering;
 
 // The rows of what a day brings, in their order: 4, 3, 5, 6. `last` is the last accepted day number.
-pub fn day_rows(
-    opening: Opening,
-    last: u64,
-    terms: DayTerms,
-    members: &[u64],
-    numbers: &[u64],
-    kinds: &[u64],
-    npvs: &[i64],
-    margins: &[u64],
-    extras: &[u64],
-) -> Refusal
-    requires { Even members.now numbers.now kinds.now × (opening.k ≤ 16) }
-    ensures { result ≡ day_rows (listed opening) last (plain_day terms members.now numbers.now kinds.now npvs.now margins.now extras.now) }
+pub fn day_rows(opening: Opening, last: u64, day: &Day) -> Result<(), Refusal>
+    requires { opening.k ≤ 16 }
+    ensures { result ≡ day_rows (listed opening) last (day_brought day.now) }
 {
-    let bad4 = bad_input(
-        opening.k,
-        members.len(),
-        npvs.len(),
-        margins.len(),
-        extras.len(),
-    );
-    let bad3 = bad_day_number(last, terms.number);
-    if bad4 {
-        return Refusal::Row(4); // before row 3
+    if bad_input(opening, day) {
+        return Err(Refusal::BadLengths); // before row 3
     }
-    if bad3 {
-        return Refusal::Row(3);
+    if bad_day_number(last, day.terms.number) {
+        return Err(Refusal::BadDayNumber);
     }
-    account_rows(opening, members, numbers, kinds, npvs, margins, extras)
+    account_rows(opening, day)
 }
 
 // The rows of a day's accounts, in their order: 5, 6.
-pub fn account_rows(
-    opening: Opening,
-    members: &[u64],
-    numbers: &[u64],
-    kinds: &[u64],
-    npvs: &[i64],
-    margins: &[u64],
-    extras: &[u64],
-) -> Refusal
-    requires even { Even members.now numbers.now kinds.now × (opening.k ≤ 16) }
-    requires npvs_len { (length npvs.now ≡ length members.now * (opening.k + 1)) × (length margins.now ≡ length members.now) × (length extras.now ≡ length members.now) }
-    ensures { (terms : DayTerms) → result ≡ account_rows (listed opening) (plain_day terms members.now numbers.now kinds.now npvs.now margins.now extras.now) }
+pub fn account_rows(opening: Opening, day: &Day) -> Result<(), Refusal>
+    requires k_few { opening.k ≤ 16 }
+    requires npvs_len { length day.now.npvs.now ≡ length day.now.headings.now * (opening.k + 1) }
+    requires margins_len { length day.now.margins.now ≡ length day.now.headings.now }
+    requires extras_len { length day.now.extras.now ≡ length day.now.headings.now }
+    ensures { result ≡ account_rows (listed opening) (day_brought day.now) }
 {
-    let count = members.len();
-    let n = opening.n;
-    let bad5 = first_bad_heading(members, numbers, kinds, n);
-    if bad5 < count {
-        return Refusal::RowAt(5, bad5 as u64);
+    if let Some(index) = first_bad_heading(opening.n, day.headings) {
+        return Err(Refusal::BadHeading(index as u64));
     }
-    if last_missing(members, n) {
-        return Refusal::RowAt(5, count as u64);
+    if last_missing(opening.n, day.headings) {
+        return Err(Refusal::BadHeading(day.headings.len() as u64));
     }
-    let bad6 = first_bad_amount(npvs, margins, extras, opening.k as usize);
-    if bad6 < count {
-        return Refusal::RowAt(6, bad6 as u64);
+    if let Some(index) = first_bad_amount(opening.k as usize, day) {
+        return Err(Refusal::BadAmount(index as u64));
     }
-    Refusal::Clear
+    Ok(())
 }
 
-// The index of the first bad heading, or the count of headings where none is bad. The period has n members.
-fn first_bad_heading(members: &[u64], numbers: &[u64], kinds: &[u64], n: u64) -> usize
-    requires { Even members.now numbers.now kinds.now }
-    ensures { result ≡ first_bad_heading n nobody (headings members.now numbers.now kinds.now) }
+// The index of the first bad heading, if one is bad. The period has n members.
+fn first_bad_heading(n: u64, headings: &[Heading]) -> Option<usize>
+    ensures { let index = first_bad_heading n nobody headings.now in result ≡ then_some (ltb index (length headings.now)) index }
 {
+    // a heading of nobody stands before the first, as in the definitions: an `Option` would need rules of its own
     let mut prev = Heading {
         member: 0,
         number: 0,
         kind: 0,
     };
-    let mut i = 0;
-    while i < members.len() {
-        let h = Heading {
-            member: members[i],
-            number: numbers[i],
-            kind: kinds[i],
-        };
-        if bad_heading(n, prev, h) {
-            return i;
+    for (i, &heading) in headings.iter().enumerate() {
+        if bad_heading(n, prev, heading) {
+            return Some(i);
         }
-        prev = h;
-        i += 1;
+        prev = heading;
     }
-    i
+    None
 }
 
 // Whether a heading is bad, where prev is the one before it.
-fn bad_heading(n: u64, prev: Heading, h: Heading) -> bool
-    ensures { result ≡ bad_heading n prev h }
+#[tactic(auto, unfolding(methodology::specs::Refusals::bad_heading))]
+fn bad_heading(n: u64, prev: Heading, heading: Heading) -> bool
+    ensures { result ≡ bad_heading n prev heading }
 {
-    if bad_alone(n, h) {
-        return true;
-    }
-    bad_after(prev, h)
+    bad_alone(n, heading) || bad_after(prev, heading)
 }
 
 // Whether it is bad by itself: a member outside 1 to n, a number above 65,535, an unknown kind (the known ones go up to U), number 0 without
 // H or H without 0.
-fn bad_alone(n: u64, h: Heading) -> bool
-    ensures { result ≡ (member_outside n h || number_above h || kind_unknown h || zero_and_house_apart h) }
+fn bad_alone(n: u64, heading: Heading) -> bool
+    ensures { result ≡ (member_outside n heading || number_above heading || kind_unknown heading || zero_and_house_apart heading) }
 {
-    if h.member < 1 {
-        return true;
-    }
-    if h.member > n {
-        return true;
-    }
-    if h.number > 65535 {
-        return true;
-    }
-    if h.kind > KIND_U {
-        return true;
-    }
-    if h.number == 0 {
-        return h.kind != KIND_H;
-    }
-    h.kind == KIND_H
+    outside(1, n, heading.member)
+        || heading.number > 65535
+        || heading.kind > KIND_U
+        || (heading.number == 0) != (heading.kind == KIND_H)
 }
 
 // Whether it is bad after prev: not strictly rising by member, then number; a member's first account that is not 0; a
 // member skipped. The difference is compared, since prev.member + 1 may not fit.
-fn bad_after(prev: Heading, h: Heading) -> bool
-    ensures { result ≡ (not_rising prev h || first_not_zero prev h || member_skipped prev h) }
+fn bad_after(prev: Heading, heading: Heading) -> bool
+    ensures { result ≡ (not_rising prev heading || first_not_zero prev heading || member_skipped prev heading) }
 {
-    if h.member == prev.member {
-        return h.number <= prev.number;
+    match heading.member.cmp(&prev.member) {
+        Ordering::Less => true,
+        Ordering::Equal => heading.number <= prev.number,
+        Ordering::Greater => heading.number != 0 || heading.member - prev.member > 1,
     }
-    if h.member < prev.member {
-        return true;
-    }
-    if h.number != 0 {
-        return true;
-    }
-    h.member - prev.member > 1
 }
 
 // Whether the last members are missing: member n, at least, has no account.
-fn last_missing(members: &[u64], n: u64) -> bool
-    ensures { (numbers kinds : List ℕ) → result ≡ last_missing n (headings members.now numbers kinds) }
+fn last_missing(n: u64, headings: &[Heading]) -> bool
+    ensures { result ≡ last_missing n headings.now }
 {
-    let mut i = 0;
-    while i < members.len() {
-        if members[i] == n {
-            return false;
-        }
-        i += 1;
-    }
-    true
+    !headings.iter().any(|heading| heading.member == n)
 }
 
-// The index of the first account with a bad amount, or the count of accounts where none is bad. Each has k + 1 NPVs.
-fn first_bad_amount(npvs: &[i64], margins: &[u64], extras: &[u64], k: usize) -> usize
-    requires { (k ≤ 16) × (length npvs.now ≡ length margins.now * (k + 1)) × (length extras.now ≡ length margins.now) }
-    ensures { (accts : List Account) → Amounts k npvs.now margins.now extras.now accts → result ≡ first_where bad_amount accts }
+// The index of the first account with a bad amount, if one has. Each account has k + 1 NPVs.
+fn first_bad_amount(k: usize, day: &Day) -> Option<usize>
+    requires k_few { k ≤ 16 }
+    requires npvs_len { length day.now.npvs.now ≡ length day.now.headings.now * (k + 1) }
+    requires margins_len { length day.now.margins.now ≡ length day.now.headings.now }
+    requires extras_len { length day.now.extras.now ≡ length day.now.headings.now }
+    ensures { let index = first_where bad_amount (accounts k (day_brought day.now)) in result ≡ then_some (ltb index (length day.now.headings.now)) index }
 {
-    let w = k + 1;
-    let mut i = 0;
-    while i < margins.len() {
-        let at = i * w;
-        if bad_amounts(&npvs[at..at + w], margins[i], extras[i]) {
-            return i;
+    let width = k + 1;
+    for i in 0..day.headings.len() {
+        let at = i * width;
+        if bad_amounts(&day.npvs[at..at + width], day.margins[i], day.extras[i]) {
+            return Some(i);
         }
-        i += 1;
     }
-    i
+    None
 }
 
 // The limits of an NPV, and that of a margin.
@@ -191,31 +135,14 @@ const LIMIT: u64 = 1_000_000_000_000;
 
 // Whether an account has a bad amount: an NPV or the margin outside its limits, or the extra above the margin.
 fn bad_amounts(row: &[i64], margin: u64, extra: u64) -> bool
-    ensures { result ≡ (any npv_outside row.now || outside 0 limit margin || ltb margin extra) }
+    ensures { result ≡ (list_any npv_outside row.now || outside_limits 0 limit margin || ltb margin extra) }
 {
-    if npv_outside(row) {
-        return true;
-    }
-    if margin > LIMIT {
-        return true;
-    }
-    margin < extra
+    npv_outside(row) || margin > LIMIT || margin < extra
 }
 
 // Whether an NPV of a row is outside its limits.
 fn npv_outside(row: &[i64]) -> bool
-    ensures { result ≡ any npv_outside row.now }
+    ensures { result ≡ list_any npv_outside row.now }
 {
-    let mut i = 0;
-    while i < row.len() {
-        let z = row[i];
-        if z < LOWEST {
-            return true;
-        }
-        if z > HIGHEST {
-            return true;
-        }
-        i += 1;
-    }
-    false
+    row.iter().any(|&z| z < LOWEST || HIGHEST < z)
 }

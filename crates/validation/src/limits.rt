@@ -1,19 +1,17 @@
 // Rows 1, 3 and 4 of the refusal table: the limits of what an opening brings, of a day's number, and of a day's lengths.
-ghost use Rattle.std.specs.Prelude.{◌≡◌, not, ◌||◌, ◌+◌, ◌*◌, ◌≤◌, eqb};
+ghost use Rattle.std.specs.Prelude.{◌≡◌, ◌≤◌};
+ghost use Rattle.std.specs.List.{list_any};
 ghost use Rattle.methodology.specs.Account.{with_groups};
-ghost use Rattle.methodology.specs.Refusals.{outside as outside_limits, n_outside, k_outside, bad_opening, bad_day_number, count_outside};
+ghost use Rattle.methodology.specs.Brought.{day_brought};
+ghost use Rattle.methodology.specs.Refusals.{outside as outside_limits, n_outside, k_outside, group_outside, bad_opening, bad_day_number, count_outside, bad_input};
 
-use methodology::Opening;
-use numbers::any_above;
+use methodology::{Day, Opening};
 
 // Whether x is below the least or above the most.
-fn outside(least: u64, most: u64, x: u64) -> bool
+pub(crate) fn outside(least: u64, most: u64, x: u64) -> bool
     ensures { result ≡ outside_limits least most x }
 {
-    if x < least {
-        return true;
-    }
-    x > most
+    x < least || most < x
 }
 
 // "n members, numbered 1 to n (1 to 32)".
@@ -37,46 +35,40 @@ pub fn count_outside(count: u64) -> bool
     outside(1, 256, count)
 }
 
+// Whether a group number of the list is not 0 to 32.
+fn group_outside(groups: &[u64]) -> bool
+    ensures { result ≡ list_any group_outside groups.now }
+{
+    groups.iter().any(|&group| outside(0, 32, group))
+}
+
 // Whether row 1 is met by an opening with these groups: in a call they are a list of any length.
+#[tactic(auto, unfolding(methodology::specs::Refusals::bad_opening))]
 pub fn bad_opening(opening: Opening, groups: &[u64]) -> bool
     ensures { result ≡ bad_opening (with_groups opening groups.now) }
 {
-    if n_outside(opening.n) {
-        return true;
-    }
-    if k_outside(opening.k) {
-        return true;
-    }
-    if any_above(32, groups) {
-        return true;
-    }
-    groups.len() as u64 != opening.n
+    n_outside(opening.n)
+        || k_outside(opening.k)
+        || group_outside(groups)
+        || groups.len() as u64 != opening.n
 }
 
 // Whether row 3 is met, where `last` is the last accepted day number.
+#[tactic(auto, unfolding(methodology::specs::Refusals::bad_day_number))]
 pub fn bad_day_number(last: u64, number: u64) -> bool
     ensures { result ≡ bad_day_number last number }
 {
-    if outside(1, 31, number) {
-        return true;
-    }
-    number <= last
+    outside(1, 31, number) || number <= last
 }
 
-// Whether row 4 is met by what a day brings: the number of its headings and the lengths of its other slices.
-pub fn bad_input(k: u64, count: usize, npvs: usize, margins: usize, extras: usize) -> bool
-    requires { k ≤ 16 }
-    ensures { result ≡ (count_outside count || not (eqb npvs (count * (k + 1))) || not (eqb margins count) || not (eqb extras count)) }
+// Whether row 4 is met by what a day brings.
+pub fn bad_input(opening: Opening, day: &Day) -> bool
+    requires { opening.k ≤ 16 }
+    ensures { result ≡ bad_input opening (day_brought day.now) }
 {
-    if count_outside(count as u64) {
-        return true;
-    }
-    let all = count as u64 * (k + 1);
-    if npvs as u64 != all {
-        return true;
-    }
-    if margins != count {
-        return true;
-    }
-    extras != count
+    let count = day.headings.len();
+    count_outside(count as u64)
+        || day.npvs.len() != count * (opening.k as usize + 1)
+        || day.margins.len() != count
+        || day.extras.len() != count
 }

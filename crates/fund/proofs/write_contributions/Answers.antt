@@ -3,7 +3,8 @@
 use mathlib.Core.Path.{◌≡◌, refl, ap, ◌∙◌}
 use Prim.Native.Nat.{ℕ, ◌*◌, ◌≤◌}
 use native.Mathlib.Omega.{arith}
-use lib.ListN.{length-take, length-drop}
+use lib.ListN.{length, take, length-take, length-drop}
+use lib.Seq.{take_all}
 use borrow.Author.Rules.{rules}
 use Rattle.numbers.specs.Sums.{Σ}
 use Rattle.numbers.proofs.Filling.{filled_rows_none, filled_rows_more, filled_rows_all}
@@ -15,10 +16,7 @@ use Rattle.fund.proofs.write_contributions.Goals as goal
 
 pub loop-i-init : goal.loop-i-init
 unfolding three Σ
-loop-i-init c = (filled_rows_none 3 _ (λ s. refl) (search rules) c.requires.n_bound.1, omega arith, refl)
-
-pub raw_charge-raw-requires : goal.raw_charge-raw-requires
-raw_charge-raw-requires c = c.requires.by_index c.loop-i.i (search rules)
+loop-i-init c = (filled_rows_none 3 _ (λ s. refl) (search rules) c.requires.sizes.1, omega arith, refl)
 
 -- a raw charge, and the contribution that it funds, are at most twice the greatest Max EUL
 raw_most : {m s d : ℕ} → Charge m s d → charge m s d ≤ 2 * greatest_total
@@ -30,32 +28,32 @@ funded_most h = omega (arith, raw_most h)
 
 pub write_three-total-requires : goal.write_three-total-requires
 write_three-total-requires c =
-    let h = c.requires.by_index c.loop-i.i (search rules) in
-    record { raw_bound = omega (arith, raw_most h, c.raw_charge-raw.ensures); in_bounds = simp (length-take, length-drop) (omega arith) }
+    let h = c.requires.each_sum c.loop-i.i (search rules) in
+    record { raw_bound = omega (arith, raw_most h, c.raw_charge.ensures); in_bounds = simp (length-take, length-drop) (omega arith) }
 
 pub overflow_add-total : goal.overflow_add-total
 overflow_add-total c =
-    let h = c.requires.by_index c.loop-i.i (search rules) in
-    let w = c.write_three-total.ensures.value ∙ ap funded c.raw_charge-raw.ensures in
+    let h = c.requires.each_sum c.loop-i.i (search rules) in
+    let w = c.write_three-total.ensures.value ∙ ap funded c.raw_charge.ensures in
     omega (arith, funded_most h, w)
 
 pub loop-i-preserved : goal.loop-i-preserved
 unfolding three
 loop-i-preserved c =
     let w = c.write_three-total in
-    let r = c.raw_charge-raw in
+    let r = c.raw_charge in
     let v = c.loop-i.invariant in
-    let h = c.requires.by_index c.loop-i.i (search rules) in
+    let h = c.requires.each_sum c.loop-i.i (search rules) in
     let f = w.ensures.value ∙ ap funded r.ensures in (
       filled_rows_more 3 _ (λ s. refl) (search rules) 0 (search rules) v.0 w.auto.out (rw r.ensures at w.ensures.out_after),
       omega (arith, funded_most h, f, v.1),
-      Σ-more c.args.sums c.loop-i.i 0 _ _ _ (search rules) v.2 f,
+      Σ-more c.args.sums.now c.loop-i.i 0 _ _ _ (search rules) v.2 f,
     )
 
 pub returns : goal.returns
 unfolding three
 returns c =
-    let all : c.loop-i.i ≡ c.args.n = omega arith in record {
+    let all : take c.loop-i.i c.args.sums.now ≡ c.args.sums.now = take_all c.loop-i.i c.args.sums.now (omega arith) in record {
       value = rw all at c.loop-i.invariant.2;
-      out_after = filled_rows_all 3 _ (λ s. refl) (search rules) c.requires.n_bound.1 (search rules) c.loop-i.invariant.0;
+      out_after = filled_rows_all 3 _ (λ s. refl) (search rules) c.requires.sizes.1 (search rules) c.loop-i.invariant.0 ∙ rw (take_all (length c.args.sums.now) c.args.sums.now (search rules));
     }

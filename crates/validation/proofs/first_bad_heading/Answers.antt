@@ -1,16 +1,14 @@
 -- `first_bad_heading` meets its contract. The invariant: what is left of the search, after the heading before i.
-use mathlib.Core.Path.{sym, ◌∙◌}
-use Rattle.validation.proofs.Headings.{search_start, search_more, search_stop, search_end}
+use native.Mathlib.Omega.{arith}
+use Rattle.std.proofs.lemmas.Bool.Decides.{nat_tests}
+use Rattle.validation.proofs.Headings.{search_more, search_stop}
 use Rattle.validation.proofs.first_bad_heading.Goals as goal
 
-pub loop-i-init : goal.loop-i-init
-loop-i-init c = search_start _ _ _ _
-
 pub returns-then-bad_heading : goal.returns-then-bad_heading
-returns-then-bad_heading c = search_stop c.loop-i.invariant c.loop-i-test.true (sym c.bad_heading.ensures ∙ c.if-bad_heading.true)
+returns-then-bad_heading c = grind (arith, nat_tests, search_stop)
 
 pub loop-i-preserved : goal.loop-i-preserved
-loop-i-preserved c = search_more c.loop-i.invariant c.loop-i-test.true (sym c.bad_heading.ensures ∙ c.if-bad_heading.false)
+loop-i-preserved c = grind (arith, nat_tests, search_more)
 
 pub returns : goal.returns
-returns c = search_end c.loop-i.invariant c.loop-i-test.false
+returns c = grind (arith, nat_tests)

@@ -1,11 +1,10 @@
 -- `first_bad_heading` meets its contract. The invariant: what is left of the search, after the heading before i.
-use Prim.Native.Nat.{◌-◌}
-use lib.ListN.{length}
-use Rattle.validation.proofs.Headings.{Search}
+use mathlib.Core.Path.{◌≡◌}
+use Prim.Native.Nat.{◌+◌}
+use lib.ListN.{drop}
+use Rattle.methodology.specs.Account.{nobody}
+use Rattle.methodology.specs.Refusals.{first_bad_heading}
 use Rattle.validation.proofs.first_bad_heading.Given as goal
 
 abbrev pub invariant-loop-i : goal.invariant-loop-i
-invariant-loop-i l = Search l.n l.members l.numbers l.kinds l.prev l.i
-
-abbrev pub decreases-loop-i : goal.decreases-loop-i
-decreases-loop-i l = length l.members - l.i
+invariant-loop-i l = first_bad_heading l.n nobody l.headings ≡ l.i + first_bad_heading l.n l.prev (drop l.i l.headings)

@@ -1,8 +1,10 @@
--- `run_month` is safe: a month is run only where all of it is there, and `month` is all letters.
-use Rattle.std.proofs.Common.{refl}
-use Rattle.numbers.specs.Lists.{any}
+-- `run_month` meets its contract: what follows a month is shorter, since its heading is read.
+use Rattle.std.proofs.Common.{length, ap, arith}
+use Rattle.accounts.proofs.Line.{line_shorter}
 use Rattle.vectors.proofs.run_month.Goals as goal
 
-pub numbers_at-start-requires-clause-word_value : goal.numbers_at-start-requires-clause-word_value
-unfolding any
-numbers_at-start-requires-clause-word_value g c = refl
+pub returns : goal.returns
+returns g c =
+    let (read, after) = c.in-Some.ensures in
+    let parts = c.in-Some-split_at_checked.ensures.cases in
+    omega (arith, line_shorter _ c.args.text.now _ read, ap length after, parts)

@@ -1,42 +1,39 @@
 -- `member_losses` meets its contract: the pass of `LossPass`, member by member.
+use mathlib.Core.Path.{refl}
 use native.Mathlib.Omega.{arith}
 use mir.Syntax.{w64}
 use Rattle.numbers.proofs.Signed.{back_ok}
+use Rattle.exposure.specs.AccountsIn.{slices_in}
+use Rattle.exposure.proofs.Left.{from_first, left_first, left_own, left_next}
 use Rattle.exposure.proofs.LossPass.{loss_none, loss_more, loss_all, sum_small}
-use Rattle.exposure.proofs.Members.{cut_inside}
 use Rattle.exposure.proofs.day.member_losses.Goals as goal
 
 pub loop-i-init : goal.loop-i-init
-loop-i-init c = loss_none c.requires
+loop-i-init c =
+    let a = c.args.all in
+    loss_none (record { same = refl; left = from_first a.k (slices_in a) a.rising })
 
-pub end_of-end-requires : goal.end_of-end-requires
-end_of-end-requires c = (c.requires.rising, c.loop-i.invariant.cut)
-
-pub eul_between-own-requires : goal.eul_between-own-requires
-eul_between-own-requires c =
-    let s = c.requires in
-    let e = c.end_of-end.ensures in
-    (s.within, s.scenarios_few, omega arith, e.0, cut_inside s e.1)
-
-pub bounds-each-i : goal.bounds-each-i
-bounds-each-i c =
-    let s = c.requires in
-    omega (arith, s.members_few)
+pub split-requires : goal.split-requires
+split-requires c = left_first c.loop-i.invariant.place
 
 pub overflow_add-total : goal.overflow_add-total
 overflow_add-total c =
-    let s = c.requires in
+    let s = c.split in
     let p = c.loop-i.invariant in
-    let e = c.end_of-end.ensures in
-    let loss = rw (back_ok w64 c.eul_between-own.result c.eul_between-own.type_inv) at c.gain-e.ensures in
-    omega (arith, sum_small s p _ _ _ e.0 e.1 c.eul_between-own.ensures loss, cut_inside s e.1, s.within.few)
+    let e = c.eul in
+    let loss = rw (back_ok w64 e.result e.type_inv) at c.gain-loss.ensures in
+    let own = left_own p.place s.result.0 s.ensures.own in
+    omega (arith, sum_small p s.result.0 s.result.1 own e.result _ e.ensures.is e.ensures.bound loss, c.loop-i-test.true, c.requires)
 
 pub loop-i-preserved : goal.loop-i-preserved
 loop-i-preserved c =
-    let s = c.requires in
-    let e = c.end_of-end.ensures in
-    let loss = rw (back_ok w64 c.eul_between-own.result c.eul_between-own.type_inv) at c.gain-e.ensures in
-    loss_more s c.loop-i.invariant _ _ _ e.0 e.1 c.eul_between-own.ensures loss c.loop-i-test.true
+    let s = c.split in
+    let p = c.loop-i.invariant in
+    let e = c.eul in
+    let loss = rw (back_ok w64 e.result e.type_inv) at c.gain-loss.ensures in
+    let own = left_own p.place s.result.0 s.ensures.own in
+    loss_more p s.result.0 s.result.1 own e.result _ e.ensures.is e.ensures.bound loss (omega (arith, c.loop-i-test.true, c.requires))
+    (left_next p.place s.result.1 s.ensures.others)
 
 pub returns : goal.returns
-returns c = loss_all c.requires c.loop-i.invariant c.loop-i-test.false
+returns c = loss_all c.loop-i.invariant c.args.n c.loop-i.auto.i-end c.loop-i-test.false

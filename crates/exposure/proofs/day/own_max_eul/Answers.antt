@@ -1,43 +1,53 @@
 -- `own_max_eul` meets its contract: the pass of `MaxPass`, member by member.
-use Rattle.exposure.proofs.MaxPass.{max_none, max_more, max_all, rows_shape, row_near}
-use Rattle.exposure.proofs.Members.{cut_inside}
+use mathlib.Core.Path.{◌∙◌}
+use native.Mathlib.Omega.{arith}
+use Rattle.methodology.specs.Account.{accounts}
+use Rattle.methodology.specs.Brought.{day_brought}
+use Rattle.exposure.proofs.Left.{from_first, left_first, left_own, left_next}
+use Rattle.exposure.proofs.MaxPass.{max_none, max_more, max_all, rows_shape, row_long, row_near}
 use Rattle.exposure.proofs.day.own_max_eul.Goals as goal
 
 pub loop-i-init : goal.loop-i-init
-loop-i-init c = max_none c.requires.0
+loop-i-init c =
+    let o = c.args.opening in
+    let d = day_brought c.args.day.now in
+    let e = c.of_day-left.ensures in
+    max_none o (accounts o.k d) (record { same = e.0; left = e.1 ∙ from_first o.k d c.requires.0.rising })
 
-pub end_of-end-requires : goal.end_of-end-requires
-end_of-end-requires c = (c.requires.0.rising, c.loop-i.invariant.cut)
-
-pub row_between-row-requires : goal.row_between-row-requires
-row_between-row-requires c =
-    let s = c.requires.0 in
-    let e = c.end_of-end.ensures in
-    (s.within, s.scenarios_few, e.0, cut_inside s e.1)
+pub split-requires : goal.split-requires
+split-requires c = left_first c.loop-i.invariant.place
 
 pub row_greatest-requires : goal.row_greatest-requires
-row_greatest-requires c = c.row_between-row.ensures.long
+row_greatest-requires c =
+    let s = c.split in
+    let p = c.loop-i.invariant in
+    row_long _ _ p s.result.0 s.result.1 _ (left_own p.place s.result.0 s.ensures.own) c.row-row.ensures
 
 pub add_row-requires : goal.add_row-requires
 add_row-requires c =
-    let s = c.requires in
+    let s = c.split in
     let p = c.loop-i.invariant in
-    let e = c.end_of-end.ensures in
-    let r = c.row_between-row.ensures in
-    (rows_shape s.0 p, s.1.few _ c.loop-i-test.true, r.long, row_near s.0 p _ _ e.0 e.1 r)
+    let q = left_own p.place s.result.0 s.ensures.own in
+    let h = c.loop-i-test.true in (
+      rows_shape _ _ p (omega (arith, c.requires.0.members_few)),
+      c.requires.1.few _ h,
+      row_long _ _ p s.result.0 s.result.1 _ q c.row-row.ensures,
+      row_near _ _ p s.result.0 s.result.1 _ q c.row-row.ensures,
+    )
 
 pub loop-i-preserved : goal.loop-i-preserved
 loop-i-preserved c =
-    let s = c.requires in
-    let e = c.end_of-end.ensures in
+    let s = c.split in
+    let p = c.loop-i.invariant in
     let h = c.loop-i-test.true in
     rw c.add_row.ensures
-    (max_more s.0 c.loop-i.invariant _ _ e.0 e.1 c.row_between-row.ensures h (s.1.few _ h) _ _ c.row_greatest.ensures c.greater-top.ensures)
+    (max_more _ _ p s.result.0 s.result.1 _ (left_own p.place s.result.0 s.ensures.own) c.row-row.ensures h c.requires.0.scenarios_few (c.requires.1.few _ h)
+    (left_next p.place s.result.1 s.ensures.others) _ _ c.row_greatest.ensures c.max-top.ensures)
 
 pub rows_greatest-requires : goal.rows_greatest-requires
-rows_greatest-requires c = rows_shape c.requires.0 c.loop-i.invariant
+rows_greatest-requires c = rows_shape _ _ c.loop-i.invariant (omega (arith, c.requires.0.members_few))
 
 pub returns : goal.returns
 returns c =
     let s = c.requires in
-    max_all s.0 c.loop-i.invariant c.loop-i-test.false s.1 _ _ c.rows_greatest.ensures c.greater.ensures
+    max_all _ _ c.loop-i.invariant c.loop-i.auto.i-end c.loop-i-test.false s.0.scenarios_few s.1 _ _ c.rows_greatest.ensures c.max.ensures

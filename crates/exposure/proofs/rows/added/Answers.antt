@@ -25,4 +25,4 @@ loop-j-preserved c =
 
 pub returns : goal.returns
 unfolding plus
-returns c = filled_all 16 _ (pos 0) _ c.loop-j-test.false c.loop-j.invariant
+returns c = filled_all 16 _ (pos 0) _ (omega arith) c.loop-j.invariant

@@ -1,5 +1,4 @@
 -- `added` meets its contract: one place after another holds the sum.
-use Prim.Native.Nat.{◌-◌}
 use lib.IntN.{pos, ◌+ℤ◌}
 use lib.ListN.{get_or}
 use Rattle.numbers.proofs.Filling.{Filled}
@@ -7,6 +6,3 @@ use Rattle.exposure.proofs.rows.added.Given as goal
 
 abbrev pub invariant-loop-j : goal.invariant-loop-j
 invariant-loop-j l = Filled 16 (λ x. get_or l.initial.sums x (pos 0) +ℤ get_or l.b x (pos 0)) (pos 0) l.initial.sums l.j l.sums
-
-abbrev pub decreases-loop-j : goal.decreases-loop-j
-decreases-loop-j l = 16 - l.j

@@ -1,4 +1,4 @@
--- `row_greatest` meets its contract. The invariant: `most` is the greatest of the numbers before j.
+-- `row_greatest` meets its contract. The invariant: `most` is the greatest of the numbers passed.
 use borrow.Author.Rules.{rules}
 use mathlib.Core.Path.{refl, ◌∙◌}
 use native.Mathlib.Omega.{arith}
@@ -13,18 +13,18 @@ use Rattle.numbers.proofs.Signed.{back}
 use Rattle.numbers.proofs.Sums.{greatest_more}
 use Rattle.exposure.proofs.rows.row_greatest.Goals as goal
 
-pub loop-j-init : goal.loop-j-init
+pub loop-x-init : goal.loop-x-init
 unfolding greatest
-loop-j-init c = refl
+loop-x-init c = refl
 
-pub loop-j-preserved : goal.loop-j-preserved
-loop-j-preserved c =
-    let l = c.loop-j in
-    let f : SFits w64 (get_or c.args.row l.j (pos 0)) = search rules in
+pub loop-x-preserved : goal.loop-x-preserved
+loop-x-preserved c =
+    let l = c.loop-x in
+    let f : SFits w64 (get_or c.args.row l.x-index (pos 0)) = search rules in
     let g = rw (back f) at c.gain.ensures in
-    c.greater-most.ensures ∙ greatest_more c.args.row l.j (pos 0) (λ z. z ⁺) _ _ (omega (arith, c.requires)) l.invariant g
+    c.max-most.ensures ∙ greatest_more c.args.row l.x-index (pos 0) (λ z. z ⁺) _ _ (omega (arith, c.requires)) l.invariant g
 
 pub returns : goal.returns
 returns c =
-    let l = c.loop-j in
-    rw (take_all l.j c.args.row (omega (arith, c.requires))) at l.invariant
+    let l = c.loop-x in
+    rw (take_all l.x-index c.args.row (omega (arith, c.requires))) at l.invariant

@@ -1,0 +1,7 @@
+-- `Accounts::row` meets its contract: the pass of `RowPass`, scenario by scenario.
+use Rattle.exposure.specs.AccountsIn.{accounts_in}
+use Rattle.exposure.proofs.RowPass.{RowPass}
+use Rattle.exposure.proofs.accounts.Accounts.row.Given as goal
+
+abbrev pub invariant-loop-j : goal.invariant-loop-j
+invariant-loop-j l = RowPass (accounts_in l.self) l.row l.j

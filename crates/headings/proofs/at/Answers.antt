@@ -1,7 +1,0 @@
--- `at` meets its contract: past its end a list has the default.
-use mathlib.Core.Path.{sym}
-use lib.ListN.{get_or-eq_default}
-use Rattle.headings.proofs.at.Goals as goal
-
-pub returns-else-i-numbers : goal.returns-else-i-numbers
-returns-else-i-numbers c = sym (get_or-eq_default c.args.numbers.now 0 c.if-i-numbers.false)

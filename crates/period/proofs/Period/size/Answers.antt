@@ -1,0 +1,70 @@
+-- `size` meets its contract: what `Replies` has for what the refusal table says; `Sizing` has what the figures ask for, and that they are the
+-- day's.
+use mathlib.Core.Path.{sym, ◌∙◌}
+use native.Mathlib.Omega.{arith}
+use Rattle.std.proofs.lemmas.Grind.{common_steps}
+use Rattle.std.proofs.lemmas.Result.{err_from_is_err_and}
+use Rattle.period.proofs.InRange.{held_opened, ready}
+use Rattle.period.proofs.Replies.{output_refused, input_refused, without_loss, day_accepted}
+use Rattle.period.proofs.Sizing.{admits, members_few, grouped, sizable, sums_fit, total_is, parts, top_few, reported_is, out_is, out_long, shares_few, sums_are}
+use Rattle.period.proofs.Period.size.Goals as goal
+
+pub returns-in_err-output_row : goal.returns-in_err-output_row
+returns-in_err-output_row c =
+    let met = err_from_is_err_and c.from_residual.result c.from_residual.ensures.1 in
+    rw (met.1, met.2) (output_refused _ _ _ _ (sym c.in_err-output_row.ensures))
+
+pub day_rows-requires : goal.day_rows-requires
+day_rows-requires c = (held_opened (ready _ _ _ (sym c.in_ok-output_row.ensures)).in_range_lem).scenarios_few
+
+pub returns-in_err-day_rows : goal.returns-in_err-day_rows
+returns-in_err-day_rows c =
+    let met = err_from_is_err_and c.from_residual-in_err-day_rows.result c.from_residual-in_err-day_rows.ensures.1 in
+    rw (met.1, met.2) (input_refused _ _ _ (sym c.in_ok-output_row.ensures) _ (sym c.in_err-day_rows.ensures))
+
+pub day_figures-figures-requires : goal.day_figures-figures-requires
+day_figures-figures-requires c = let a = admits _ _ _ (sym c.in_ok-output_row.ensures) (sym c.in_ok-day_rows.ensures) in (sizable a, grouped a)
+
+pub returns-then-total-eq0 : goal.returns-then-total-eq0
+returns-then-total-eq0 c =
+    let lent = sym c.in_ok-output_row.ensures in
+    let brought = sym c.in_ok-day_rows.ensures in
+    without_loss _ _ _ lent brought (sym (total_is (admits _ _ _ lent brought) c.day_figures-figures.ensures) ∙ c.if-total-eq0.true)
+
+pub shared_ref_as_front-write_dailies : goal.shared_ref_as_front-write_dailies
+shared_ref_as_front-write_dailies c = members_few (admits _ _ _ (sym c.in_ok-output_row.ensures) (sym c.in_ok-day_rows.ensures))
+
+pub write_dailies-requires : goal.write_dailies-requires
+write_dailies-requires c =
+    let a = admits _ _ _ (sym c.in_ok-output_row.ensures) (sym c.in_ok-day_rows.ensures) in
+    record {
+      sizes = (grind (arith, common_steps, members_few a), grind (arith, common_steps, members_few a, a.room_long));
+      each_loss = parts a c.day_figures-figures.ensures c.if-total-eq0.false;
+      max_bound = omega (arith, c.max-reported.ensures, a.in_range_lem.bounded, top_few a c.day_figures-figures.ensures);
+    }
+
+pub overflow_add-self : goal.overflow_add-self
+overflow_add-self c =
+    let r = (admits _ _ _ (sym c.in_ok-output_row.ensures) (sym c.in_ok-day_rows.ensures)).in_range_lem in
+    omega (arith, r.counted, r.month)
+
+pub with_shares-requires : goal.with_shares-requires
+with_shares-requires c =
+    let a = admits _ _ _ (sym c.in_ok-output_row.ensures) (sym c.in_ok-day_rows.ensures) in
+    let are = c.day_figures-figures.ensures in
+    record {
+      sizes = (members_few a, out_long a are _ c.write_dailies.ensures);
+      each_share = shares_few a are _ c.write_dailies.ensures c.if-total-eq0.false;
+      each_sum = sums_fit a;
+    }
+
+pub returns : goal.returns
+returns c =
+    let lent = sym c.in_ok-output_row.ensures in
+    let brought = sym c.in_ok-day_rows.ensures in
+    let a = admits _ _ _ lent brought in
+    let are = c.day_figures-figures.ensures in
+    let total = total_is a are in
+    let wrote = c.write_dailies.ensures in
+    day_accepted _ _ _ lent brought (λ z. c.if-total-eq0.false (total ∙ z)) total (reported_is a are c.max-reported.ensures) (sums_are a are _ wrote c.with_shares.ensures)
+    (out_is a are _ wrote)
