@@ -1,16 +1,18 @@
 -- An account stored in place j: the day of the first j + 1 accounts is that of the first j with it.
 use mathlib.Core.Path.{◌≡◌}
-use mathlib.Core.List.{List}
-use Prim.Native.Nat.{ℕ, ◌+◌, ◌-◌, ◌*◌, ◌≤◌, ◌<◌}
+use mathlib.Core.List.{List, [], ◌∷◌, append-nil}
+use Prim.Native.Nat.{ℕ, suc, ◌+◌, ◌-◌, ◌*◌, ◌≤◌, ◌<◌}
 use native.Mathlib.Omega.{arith}
 use native.Mathlib.Nat.{add-mul, one-mul}
-use lib.IntN.{ℤ}
-use lib.ListN.{length, take, drop, set, length-take, length-drop}
+use lib.IntN.{ℤ, pos}
+use lib.ListN.{length, get_or, take, drop, set, length-take, length-drop}
+use Rattle.std.proofs.Common.{drop_of_length-le, take_all, length-take-le, replicate}
 use borrow.Rule.Slice.PartMut.{put_mid}
-use Rattle.std.proofs.lemmas.List.{take_more_set}
+use Rattle.std.proofs.lemmas.List.{take_more_set, length-replicate}
 use Rattle.std.proofs.lemmas.Slice.{take-put_mid}
 use Rattle.methodology.specs.Text.{AccountLine, with_account}
 use Rattle.methodology.specs.declared.DayTerms.{DayTerms}
+use Rattle.lines.specs.Forms.{npvs_in}
 use Rattle.accounts.specs.declared.Places.{Places}
 use Rattle.accounts.specs.AcctLines.{day_read}
 
@@ -21,16 +23,32 @@ module _ (j k : ℕ) (npvs : List ℤ) where
   pub lent_inside : j < 256 → k ≤ 16 → length npvs ≡ 4352 → j * (k + 1) + (k + 1) ≤ length npvs
   lent_inside h l e = grind arith
 
-  -- as many as an account with k stresses has
-  module _ (inside : j * (k + 1) + (k + 1) ≤ length npvs) where
-    abbrev lent : List ℤ
-    lent = take (j * (k + 1) + (k + 1) - j * (k + 1)) (drop (j * (k + 1)) npvs)
+  pub lent_some : j * (k + 1) + (k + 1) ≤ length npvs → 0 < length (take (j * (k + 1) + (k + 1) - j * (k + 1)) (drop (j * (k + 1)) npvs))
+  lent_some inside = simp (length-take, length-drop) (omega arith)
 
-    pub lent_long : length lent ≡ k + 1
-    lent_long = simp (length-take, length-drop) (omega arith)
+-- ---- the row that is lent for an account's line
 
-    pub lent_stresses : length lent - 1 ≡ k
-    lent_stresses = omega (arith, lent_long)
+module _ (k : ℕ) (few : k ≤ 16) where
+  abbrev row : List ℤ
+  row = take (k + 6) (replicate 22 (pos 0))
+
+  row_long : length row ≡ k + 6
+  row_long = length-take-le (k + 6) (replicate 22 (pos 0)) (omega (arith, length-replicate {A = ℤ}))
+
+  pub row_stresses : length row - 6 ≡ k
+  row_stresses = omega (arith, row_long)
+
+  pub row_npvs : (values : List ℤ) → length values ≡ length row → length (npvs_in values) ≡ k + 1
+  row_npvs values same = omega (arith, row_long, length-drop 6 values)
+
+-- its base and its stresses, copied one after another
+pub npvs_are : (npvs values stresses : List ℤ) (base : ℤ) → 0 < length npvs → base ≡ get_or values 3 (pos 0) → stresses ≡ take (length values - 6) (drop 6 values)
+    → put_mid 1 (length (set npvs 0 base) - 1) (set npvs 0 base) stresses ≡ npvs_in values
+npvs_are [] values stresses base h e k = absurd (omega arith)
+npvs_are (x ∷ npvs) values stresses base h e k =
+    let all : length npvs ≤ suc (length npvs) - 1 = omega arith in
+    let rest : length (drop 6 values) ≤ length values - 6 = omega (arith, length-drop 6 values) in
+    rw (drop_of_length-le npvs all, append-nil stresses, e, k, take_all (length values - 6) (drop 6 values) rest)
 
 -- ---- an account in its place
 

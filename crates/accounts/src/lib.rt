@@ -47,13 +47,18 @@ impl Places {
         let width = k + 1;
         let mut rest = text;
         for j in 0..count {
-            let from = j * width;
-            let Some((terms, next)) = account(rest, &mut self.npvs[from..from + width]) else {
+            let mut places = [0; 22]; // for 16 stresses
+            let values = &mut places[..k + 6];
+            let Some((terms, next)) = account(rest, values) else {
                 return Err(j);
             };
             if text.len() - next.len() > MOST_BYTES {
                 return Err(j);
             }
+            let from = j * width;
+            let npvs = &mut self.npvs[from..from + width];
+            npvs[0] = values[3];
+            npvs[1..].copy_from_slice(&values[6..]);
             self.headings[j] = terms.heading;
             self.margins[j] = terms.margin;
             self.extras[j] = terms.extra;

@@ -5,7 +5,7 @@ use mathlib.Core.Bool.{false, true≢false, cond}
 use mathlib.Core.List.{List, [], ◌∷◌, ◌++◌, append-nil}
 use Prim.Native.Nat.{ℕ, ◌*◌}
 use lib.ListN.{length}
-use Rattle.std.specs.Prelude.{Ok}
+use Rattle.std.specs.Prelude.{Ok, is_err}
 use Rattle.methodology.specs.Numbers.{row_index}
 use Rattle.methodology.specs.Refusals.{clear}
 use Rattle.methodology.specs.declared.Opening.{Opening}
@@ -22,7 +22,7 @@ use Rattle.period.specs.Calls.{fresh_period, OpeningMeets, DayMeets, ClosingMeet
 use Rattle.period.specs.Follows.{Follows}
 use Rattle.period.proofs.Simulation.{starts, opening_follows, day_follows, closing_follows}
 use Rattle.answers.specs.InStep.{InStep}
-use Rattle.answers.specs.Said.{Outcome, said, is_over}
+use Rattle.answers.specs.Said.{Outcome, said}
 use Rattle.answers.proofs.RefusalRows.{is_clear, told_line, told_own_line, is_told}
 use Rattle.answers.proofs.Outcomes.{OfOpening, opened, unopened, opening_outcome, OfDay, sized, unsized, day_outcome}
 use Rattle.answers.proofs.Outcomes.{OfClosing, closed, unclosed, closing_outcome}
@@ -38,22 +38,22 @@ module _ (o : Opening) (r : Reply) (m : OpeningMeets fresh_period o r) where
   first_told e = sym (opening_follows starts m).1 ∙ ap answer_of e
 
   pub opening_said : (rest : Expected → List ℕ) → followed_by (Text·opened (refusal start first) o) rest
-      ≡ said r.outcome 0 1 0 [] ++ cond (is_over r.outcome) [] (rest (day (step start first)))
-  unfolding Text·opened followed_by said is_over
+      ≡ said r.outcome 0 1 0 [] ++ cond (is_err r.outcome) [] (rest (day (step start first)))
+  unfolding Text·opened followed_by said
   opening_said rest = by r.outcome refl (opening_outcome m)
     where
       by : (x : Outcome) → r.outcome ≡ x → OfOpening x
-          → followed_by (Text·opened (refusal start first) o) rest ≡ said x 0 1 0 [] ++ cond (is_over x) [] (rest (day (step start first)))
+          → followed_by (Text·opened (refusal start first) o) rest ≡ said x 0 1 0 [] ++ cond (is_err x) [] (rest (day (step start first)))
       by x e opened = rw (is_clear (refusal start first) _ _ (first_told e)).0
       by x e (unopened told h) =
           let t = is_told (refusal start first) _ told (first_told e) in
           rw t.is (told_own_line t h 1 ∙ sym (append-nil (refused_line told (line_named 1 (row_index told)))))
 
-  pub opening_in_step : is_over r.outcome ≡ false → InStep (step start first) r.period o.n o.k
-  unfolding accept is_over
+  pub opening_in_step : is_err r.outcome ≡ false → InStep (step start first) r.period o.n o.k
+  unfolding accept
   opening_in_step = by r.outcome refl (opening_outcome m)
     where
-      by : (x : Outcome) → r.outcome ≡ x → OfOpening x → is_over x ≡ false → InStep (step start first) r.period o.n o.k
+      by : (x : Outcome) → r.outcome ≡ x → OfOpening x → is_err x ≡ false → InStep (step start first) r.period o.n o.k
       by x e opened t =
           let h : (step start first).held ≡ o = ap (λ (g : Register). g.held) (step_clear start first (is_clear (refusal start first) _ _ (first_told e)).0) in
           record { follows = (opening_follows starts m).0; members = ap (λ (o : Opening). o.n) h; scenarios = ap (λ (o : Opening). o.k) h }
@@ -106,12 +106,12 @@ module _ (n k : ℕ) (g : Register) (period : Period) (h : InStep g period n k) 
     lines_are total max e = rw (e, ← written_is, still_in_step.members)
 
   pub day_said : (rest : Expected → List ℕ) → followed_by (Text·sized (refusal g call) g d line) rest
-      ≡ said r.outcome d.terms.number line n figures ++ cond (is_over r.outcome) [] (rest (day (step g call)))
-  unfolding Text·sized followed_by said is_over
+      ≡ said r.outcome d.terms.number line n figures ++ cond (is_err r.outcome) [] (rest (day (step g call)))
+  unfolding Text·sized followed_by said
   day_said rest = by r.outcome refl (day_outcome m)
     where
       by : (o : Outcome) → r.outcome ≡ o → OfDay o
-          → followed_by (Text·sized (refusal g call) g d line) rest ≡ said o d.terms.number line n figures ++ cond (is_over o) [] (rest (day (step g call)))
+          → followed_by (Text·sized (refusal g call) g d line) rest ≡ said o d.terms.number line n figures ++ cond (is_err o) [] (rest (day (step g call)))
       by o e (sized total max) =
           let (c, f) = is_clear (refusal g call) _ _ (told e) in
           rw c (ap (λ (l : List ℕ). l ++ rest (day (step g call))) (lines_are c total max f))
@@ -119,11 +119,10 @@ module _ (n k : ℕ) (g : Register) (period : Period) (h : InStep g period n k) 
           let t = is_told (refusal g call) _ row (told e) in
           rw t.is (told_line t line ∙ sym (append-nil (refused_line row (line_named line (row_index row)))))
 
-  pub day_in_step : is_over r.outcome ≡ false → InStep (step g call) r.period n k
-  unfolding is_over
+  pub day_in_step : is_err r.outcome ≡ false → InStep (step g call) r.period n k
   day_in_step = by r.outcome refl (day_outcome m)
     where
-      by : (o : Outcome) → r.outcome ≡ o → OfDay o → is_over o ≡ false → InStep (step g call) r.period n k
+      by : (o : Outcome) → r.outcome ≡ o → OfDay o → is_err o ≡ false → InStep (step g call) r.period n k
       by o e (sized total max) t = still_in_step (is_clear (refusal g call) _ _ (told e)).0
       by o e (unsized row few) t = absurd (true≢false t)
 

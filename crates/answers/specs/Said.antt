@@ -1,5 +1,5 @@
 -- What the report prints of a call: one definition for every outcome, by the lines that the report's definition has.
-use Rattle.std.specs.Prelude.{Bool, true, false, List, [], ◌∷◌, ℕ, Result, Ok, Err}
+use Rattle.std.specs.Prelude.{List, [], ◌∷◌, ℕ, Result, Ok, Err}
 use Rattle.methodology.specs.declared.Refusal.{Refusal}
 use Rattle.methodology.specs.Numbers.{row_index}
 use Rattle.methodology.specs.Text.{refused_line, line_named, totals, day_lines, fund_lines}
@@ -34,10 +34,3 @@ sums_said (Ok Opened) n figures = []
 sums_said (Ok (Sized total max)) n figures = totals n figures
 sums_said (Ok (Closed days highest funds)) n figures = []
 sums_said (Err refusal) n figures = []
-
--- whether an outcome ends the report, as all but an accepted opening and an accepted day do
-unfoldable pub is_over : Outcome → Bool
-is_over (Ok Opened) = false
-is_over (Ok (Sized total max)) = false
-is_over (Ok (Closed days highest funds)) = true
-is_over (Err refusal) = true

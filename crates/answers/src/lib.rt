@@ -7,7 +7,7 @@ ghost use Rattle.std.specs.Prelude.{[], ◌∷◌, ◌≡◌, ◌*◌, ◌≤◌
 ghost use Rattle.numbers.specs.Lists.{Every};
 ghost use Rattle.methodology.specs.Text.{totals, day_lines, fund_lines};
 ghost use Rattle.report.specs.Prints.{Prints};
-ghost use Rattle.answers.specs.Said.{width_said, sums_said, line_said, said, is_over};
+ghost use Rattle.answers.specs.Said.{width_said, sums_said, line_said, said};
 
 use crate::totals::day_totals;
 use methodology::Refusal;
@@ -16,7 +16,7 @@ use report::Printer;
 
 // An accepted day's lines: "After a day's daily lines the report prints `total`, then the sums".
 fn print_day(printer: &mut Printer, number: u64, total: u64, max: u64, n: usize, figures: &[u64])
-    requires n_bound { (n ≤ 32) × (5 * n ≤ length figures.now) }
+    requires n_in_bounds { 5 * n ≤ length figures.now }
     requires every { Every (λ x. x < 2 ^ 64) (totals n figures.now) }
     ensures { Prints printer.old (day_lines number n (total ∷ max ∷ []) figures.now) printer.new }
 {
@@ -28,14 +28,15 @@ fn print_day(printer: &mut Printer, number: u64, total: u64, max: u64, n: usize,
 
 // An accepted closing's lines.
 fn print_fund(printer: &mut Printer, days: u64, highest: u64, funds: u64, n: usize, figures: &[u64])
-    requires n_bound { (n ≤ 32) × (3 * n ≤ length figures.now) }
+    requires n_in_bounds { 3 * n ≤ length figures.now }
     ensures { Prints printer.old (fund_lines n (days ∷ highest ∷ funds ∷ []) figures.now) printer.new }
 {
     printer.line(b"fund", &[days, highest, funds]);
     printer.rows(b"contribution", 3, n, figures);
 }
 
-// Prints what a call says: `line` is the call's own line, `number` a day's number, and the figures are what the call wrote for n members.
+// Prints what a call says: `line` is the call's own line, `number` a day's number, and the figures are what the call wrote for n
+// members. By their length alone, with no n, the contract would divide by `width_said`, which is 0 for an opening and a refusal.
 #[tactic(auto, using(report::proofs::Laws::prints_none), unfolding(crate::specs::Said::width_said, crate::specs::Said::sums_said, crate::specs::Said::line_said, crate::specs::Said::said))]
 pub fn say(
     printer: &mut Printer,
@@ -45,7 +46,7 @@ pub fn say(
     n: usize,
     figures: &[u64],
 )
-    requires n_bound { (n ≤ 32) × (width_said outcome * n ≤ length figures.now) }
+    requires n_in_bounds { width_said outcome * n ≤ length figures.now }
     requires every { Every (λ x. x < 2 ^ 64) (sums_said outcome n figures.now) }
     requires line_bound { line_said outcome line < 2 ^ 64 }
     ensures { Prints printer.old (said outcome number line n figures.now) printer.new }
@@ -63,18 +64,5 @@ pub fn say(
             };
             printer.refusal(refusal, named);
         }
-    }
-}
-
-// Whether an outcome ends the report, as all but an accepted opening and an accepted day do.
-#[tactic(auto, unfolding(crate::specs::Said::is_over))]
-pub fn is_over(outcome: Result<Accepted, Refusal>) -> bool
-    ensures { result ≡ is_over outcome }
-{
-    match outcome {
-        Ok(Accepted::Opened) => false,
-        Ok(Accepted::Sized(_, _)) => false,
-        Ok(Accepted::Closed(_, _, _)) => true,
-        Err(_) => true,
     }
 }

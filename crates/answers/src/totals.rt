@@ -3,7 +3,8 @@ ghost use Rattle.std.specs.Prelude.{◌≡◌, ◌*◌, ◌≤◌, ◌<◌, ◌^
 ghost use Rattle.numbers.specs.Lists.{Every};
 ghost use Rattle.methodology.specs.Text.{column_sum, totals};
 
-// The sum of column c over the stretches of n members, each with five numbers.
+// The sum of column c over the stretches of n members, each with five numbers. By an index, and not by `chunks_exact(5)`, whose invariant would
+// be of the iterator's rest and not of the members: no plainer.
 fn column_sum(n: usize, figures: &[u64], c: usize) -> u64
     requires c_lt_width { (c < 5) × (5 * n ≤ length figures.now) }
     requires c_bound { column_sum 5 n figures.now c < 2 ^ 64 }

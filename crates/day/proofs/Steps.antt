@@ -4,7 +4,7 @@ use mathlib.Core.Bool.{true, false, cond}
 use mathlib.Core.List.{List, [], ◌++◌, append-nil, append_assoc}
 use Prim.Native.Nat.{ℕ, ◌+◌, ◌*◌}
 use lib.ListN.{length}
-use Rattle.std.specs.Prelude.{Option}
+use Rattle.std.specs.Prelude.{Option, is_err}
 use Rattle.methodology.specs.Account.{DayInput}
 use Rattle.methodology.specs.Register.{Call, Register, step}
 use Rattle.methodology.specs.Text.{LF, split, report_from}
@@ -13,7 +13,7 @@ use Rattle.report.specs.Prints.{Prints}
 use Rattle.report.proofs.Laws.{prints_then}
 use Rattle.period.specs.declared.Reply.{Reply}
 use Rattle.period.specs.Calls.{DayMeets}
-use Rattle.answers.specs.Said.{said, is_over}
+use Rattle.answers.specs.Said.{said}
 use Rattle.answers.proofs.CallsSaid.{day_said}
 use Rattle.accounts.specs.AcctLines.{day_due}
 use Rattle.day.specs.declared.Progress.{Progress}
@@ -32,13 +32,13 @@ module _ (g : Register) (from : Progress) (h : Stands g from) (d : DayInput) (be
   abbrev lines : List ℕ
   lines = said r.outcome d.terms.number from.line from.n figures
 
-  due_is : day_due rest g d from.line count ≡ lines ++ cond (is_over r.outcome) [] (days_due rest (from.line + 1 + count) after)
+  due_is : day_due rest g d from.line count ≡ lines ++ cond (is_err r.outcome) [] (days_due rest (from.line + 1 + count) after)
   due_is = day_said from.n from.k g from.period h d from.line before r figures m room (report_from (from.line + 1 + count) (split LF rest))
 
-  pub day_over : is_over r.outcome ≡ true → Prints p (day_due rest g d from.line count) q
+  pub day_over : is_err r.outcome ≡ true → Prints p (day_due rest g d from.line count) q
   day_over e = rw (due_is, e, append-nil lines) w
 
-  pub day_on : is_over r.outcome ≡ false → (to : Progress) → to.rest.now ≡ rest → to.line ≡ from.line + 1 + count → Stands after to
+  pub day_on : is_err r.outcome ≡ false → (to : Progress) → to.rest.now ≡ rest → to.line ≡ from.line + 1 + count → Stands after to
       → GoesOn (day_due rest g d from.line count) p q to
   day_on e to s l i = record { g = after; stands = i; lines = lines; printed = w; left = due_is ∙ rw (e, s, l) }
 

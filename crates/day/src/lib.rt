@@ -4,7 +4,7 @@
 ghost use Rattle.std.specs.Prelude.{◌+◌, ◌^◌, ◌≤◌, length};
 
 use accounts::Places;
-use answers::{is_over, say};
+use answers::say;
 use methodology::{Day, DayTerms, Refusal};
 use period::{Period, Reply};
 use report::Printer;
@@ -72,9 +72,10 @@ impl<'a> Progress<'a> {
             self.n,
             figures,
         );
-        if is_over(outcome) {
+        if outcome.is_err() {
             return None;
         }
+        // each field by its name: `..self` is not there for a struct with a ghost field
         Some(Progress {
             rest,
             line: self.line + 1 + day.headings.len() as u64,

@@ -13,7 +13,8 @@ pub fn gain(x: i64) -> u64
     x.max(0) as u64
 }
 
-// Base minus stress, or 0 where that is negative. `gain` of the difference is slower: it tests what the subtraction has tested.
+// Base minus stress, or 0 where that is negative. By `gain` of the difference it is slower, by an instruction
+// for each account.
 fn decrease(base: i64, stress: i64) -> u64
     requires { (nat_abs base ≤ limit) × (nat_abs stress ≤ limit) }
     ensures { result ≡ (base -ℤ stress) ⁺ }
@@ -39,7 +40,8 @@ fn largest_decrease(row: &[i64]) -> u64
     most
 }
 
-// What an EUL takes of each account: its largest decrease, for the own EUL, or the one under a scenario, 1 to k.
+// What an EUL takes of each account: its largest decrease, for the own EUL, or the one under a scenario, 1 to k. No Option, since neither is
+// nothing: both are document 01's words.
 #[derive(Clone, Copy)]
 pub enum Scenario {
     Own,

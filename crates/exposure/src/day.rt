@@ -19,6 +19,7 @@ pub struct Losses {
     pub total: u64,
 }
 
+// It and `own_max_eul` walk over members alike, and keep other things of them: a closure in common would need a contract of its own.
 fn member_losses(n: usize, all: Accounts) -> Losses
     requires { n ≤ 32 }
     ensures { LossesAre n all.entry.k (accounts_in all.entry) result }

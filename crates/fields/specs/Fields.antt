@@ -1,7 +1,8 @@
 -- A line's fields, read one after another from the text where they stand: neither the line nor a field is cut out first.
-use Rattle.std.specs.Prelude.{◌≡◌, ℕ, zero, suc, ◌+◌, ◌^◌, ◌<◌, ◌≤◌, Bool, true, false, cond, not, ◌||◌, ◌⊎◌, List, [], length, take, drop, ℤ, pos, ◌==◌, nat_lt, slice_index, MatchOption}
+use Rattle.std.specs.Prelude.{◌≡◌, ℕ, zero, suc, ◌+◌, ◌^◌, ◌<◌, ◌≤◌, Bool, true, false, cond, not, ◌||◌, ◌⊎◌, List, [], length, take, drop, ℤ, pos, ◌==◌, eqb, nat_lt, slice_index, MatchOption}
 use Rattle.std.specs.Prelude.{Option, None, Some}
 use Rattle.std.specs.List.{list_any}
+use Rattle.std.specs.Option.{option_eq}
 use Rattle.std.specs.Borrow.{Bor}
 use Rattle.numbers.specs.Lists.{first_where}
 use Rattle.methodology.specs.Text.{tab, LF, is_digit, value_from, number_of, signed_of, kind_of, also}
@@ -71,10 +72,10 @@ unfoldable pub due : (left : ℕ) → ℕ
 due zero = LF
 due (suc left) = tab
 
--- the values of n fields, from field j on: field `place` is a kind, the others are signed numbers
-unfoldable pub row_at : (place j n : ℕ) → List ℕ → Option (List ℤ)
-row_at place j zero s = Some []
-row_at place j (suc n) s = also (value_at (j == place) (due n) s) (row_at place (suc j) n (past s))
+-- the values of n fields, from field j on: the one in `kind_place` is a kind, the others are signed numbers
+unfoldable pub row_at : (kind_place : Option ℕ) → (j n : ℕ) → List ℕ → Option (List ℤ)
+row_at kind_place j zero s = Some []
+row_at kind_place j (suc n) s = also (value_at (option_eq eqb (Some j) kind_place) (due n) s) (row_at kind_place (suc j) n (past s))
 
 -- what follows n fields
 unfoldable pub past_row : (n : ℕ) → List ℕ → List ℕ

@@ -3,7 +3,7 @@
 
 ghost use Rattle.std.specs.Prelude.{◌≡◌, ◌≤◌, min, false, true, [], length, pos, slice_index_or, position, MatchOption, nat_lt};
 ghost use Rattle.std.specs.List.{list_any};
-ghost use Rattle.methodology.specs.Text.{fields, same as text_same, kind_of as kind_number};
+ghost use Rattle.methodology.specs.Text.{fields, kind_of as kind_number};
 ghost use Rattle.fields.specs.Fields.{stops, Run, Over, Reads, number_at, value_at, row_at, RowReads};
 
 use methodology::{KIND_A, KIND_H, KIND_R, KIND_U};
@@ -18,13 +18,6 @@ pub fn field(line: &[u8]) -> &[u8]
 {
     let end = line.iter().position(|&b| b == TAB).unwrap_or(line.len());
     &line[..end]
-}
-
-// Whether a and b hold the same bytes.
-pub fn same(a: &[u8], b: &[u8]) -> bool
-    ensures { result ≡ text_same a.now b.now }
-{
-    a == b
 }
 
 // The value of the digits that a text begins with, `most` of them at the most, and how many there are.
@@ -133,28 +126,20 @@ fn kind(text: &[u8], end: u8) -> Option<(i64, &[u8])>
     Some((kind_of(field), &text[size + 1..]))
 }
 
-// A kind or a signed number: the choice stands apart, so that `row` knows one thing of what was read.
-fn value(text: &[u8], end: u8, lettered: bool) -> Option<(i64, &[u8])>
-    requires { stops end ≡ true }
-    ensures { Reads (value_at lettered end text.now) text.now result }
-{
-    if lettered {
-        kind(text, end)
-    } else {
-        signed(text, end)
-    }
-}
-
-// Reads the fields up to the line's end into the row, as many as it has places: field `place` is a kind, the others are signed numbers.
-// It answers the rest after the LF, or nothing where the fields are not so.
-pub fn row<'a>(text: &'a [u8], place: usize, row: &mut [i64]) -> Option<&'a [u8]>
-    ensures { RowReads (row_at place 0 (length row.old) text.now) (length row.old) text.now row.new result }
+// Reads the fields up to the line's end into the row, as many as it has places: the field in `kind_place` is a kind, the others are signed
+// numbers. It answers the rest after the LF, or nothing where the fields are not so.
+pub fn row<'a>(text: &'a [u8], kind_place: Option<usize>, row: &mut [i64]) -> Option<&'a [u8]>
+    ensures { RowReads (row_at kind_place 0 (length row.old) text.now) (length row.old) text.now row.new result }
 {
     let count = row.len();
     let mut rest = text;
     for j in 0..count {
         let end = if j + 1 == count { LF } else { TAB };
-        let (read, after) = value(rest, end, j == place)?;
+        let (read, after) = if Some(j) == kind_place {
+            kind(rest, end)?
+        } else {
+            signed(rest, end)?
+        };
         row[j] = read;
         rest = after;
     }

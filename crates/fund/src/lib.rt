@@ -37,7 +37,8 @@ pub fn write_dailies(losses: &[u64], max: u64, total: u64, out: &mut [u64])
     }
 }
 
-// The sums of n members' shares, with those that stand in what a day wrote. They are an array by value, as a period holds them: no heap.
+// The sums of n members' shares, with those that stand in what a day wrote. They are the whole array that a period holds: lent as a slice of
+// the first n (tried), they join the rest only by a proof in period of 20 lines more, so the new form is no plainer.
 pub fn with_shares(sums: [u64; 32], n: usize, out: &[u64]) -> [u64; 32]
     requires sizes { (n ≤ 32) × (length out.now ≡ 5 * n) }
     requires each_share { (i : ℕ) → i < n → share_in out.now i ≤ scale }

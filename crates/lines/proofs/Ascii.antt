@@ -2,6 +2,7 @@
 use mathlib.Core.Path.{◌≡◌, refl, sym, ap, ◌∙◌}
 use mathlib.Core.Bool.{Bool, true, false, not, ◌&&◌, ◌||◌, cond, or_assoc}
 use mathlib.Core.List.{List, [], ◌∷◌}
+use Rattle.std.specs.Option.{option_eq}
 use Rattle.std.specs.Prelude.{Option, None, Some}
 use Prim.Native.Nat.{ℕ, suc}
 use native.Mathlib.Omega.{arith}
@@ -83,10 +84,10 @@ value_ascii true f z e = by (foreign f) e
     by false e = refl
 value_ascii false f z e = signed_ascii f z e
 
-pub values_ascii : (kind j : ℕ) (fs : List (List ℕ)) (l : List ℤ) → values_of kind j fs ≡ Some l → list_any foreign fs ≡ false
+pub values_ascii : (kind : Option ℕ) (j : ℕ) (fs : List (List ℕ)) (l : List ℤ) → values_of kind j fs ≡ Some l → list_any foreign fs ≡ false
 unfolding values_of
 values_ascii kind j [] l e = refl
 values_ascii kind j (f ∷ fs) l e =
     let (z, h) = also_first _ _ l e in
     let (m, k) = also_some _ _ l e in
-    rw (value_ascii (eqb j kind) f z h) (values_ascii kind (suc j) fs m k)
+    rw (value_ascii (option_eq eqb (Some j) kind) f z h) (values_ascii kind (suc j) fs m k)

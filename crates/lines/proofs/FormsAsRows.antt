@@ -4,12 +4,12 @@ use mathlib.Core.Path.{◌≡◌, refl, sym, ◌∙◌}
 use mathlib.Core.Bool.{Bool, true, false, not, ◌&&◌, ◌||◌, cond}
 use mathlib.Core.List.{List, [], ◌∷◌, ◌++◌, map}
 use Rattle.std.specs.Prelude.{Option, None, Some}
-use Prim.Native.Nat.{ℕ, zero, suc, ◌+◌, ◌≤◌, ◌<◌}
+use Prim.Native.Nat.{ℕ, zero, suc, ◌+◌, ◌<◌}
 use native.Mathlib.Numerals.{add-one}
 use native.Mathlib.Omega.{arith}
 use lib.Dec.{eqb, ltb}
 use lib.IntN.{ℤ, pos}
-use lib.ListN.{length, get_or, take, drop, length-drop}
+use lib.ListN.{length, get_or, take, drop}
 use borrow.Author.Tests.{eqb-true, ne_eqb, le-ltb}
 use Rattle.std.specs.List.{list_any}
 use Rattle.numbers.specs.Signed.{◌⁺}
@@ -18,7 +18,7 @@ use Rattle.methodology.specs.Refusals.{outside}
 use Rattle.methodology.specs.Text.{AccountLine, LF, tab, bytes, same, fields, value_from, number_of, below0, above0, signed_of, kind_of, also, every_field, bad_bytes, numbers_after, account_by, account_of}
 use Rattle.methodology.specs.Lines.{has, before, line_read}
 use Rattle.fields.specs.Fields.{value_of}
-use Rattle.lines.specs.Forms.{values_of, row_after, line_row, is_negative}
+use Rattle.lines.specs.Forms.{values_of, row_after, line_row, is_negative, npvs_in}
 use Rattle.lines.proofs.RowOfLine.{also_none}
 use Rattle.lines.proofs.Ascii.{foreign, any_split}
 
@@ -95,19 +95,19 @@ also_naturals (Some x) (Some zs) = by (is_negative x) (list_any is_negative zs)
     by false true = refl
     by false false = refl
 
--- fields before the place of the kind
-number_fields : (place j : ℕ) (fs : List (List ℕ)) → j + length fs ≤ place → every_field number_of fs ≡ naturals (values_of place j fs)
+-- fields of which none is a kind
+number_fields : (j : ℕ) (fs : List (List ℕ)) → every_field number_of fs ≡ naturals (values_of None j fs)
 unfolding every_field values_of value_of naturals
-number_fields place j [] h = refl
-number_fields place j (f ∷ fs) h =
-    rw (number_signed f, ne_eqb j place (λ e. omega arith), number_fields place (suc j) fs (omega arith)) (also_naturals (signed_of f) (values_of place (suc j) fs))
+number_fields j [] = refl
+number_fields j (f ∷ fs) =
+    rw (number_signed f, number_fields (suc j) fs) (also_naturals (signed_of f) (values_of None (suc j) fs))
 
-pub numbers_row : (word : List ℕ) (n : ℕ) (s : List ℕ) → line_read (numbers_after word n) s ≡ naturals (line_row word n n s)
+pub numbers_row : (word : List ℕ) (n : ℕ) (s : List ℕ) → line_read (numbers_after word n) s ≡ naturals (line_row word None n s)
 unfolding numbers_after row_after naturals
 numbers_row word n s =
-    read_by (numbers_after word n) (row_after word n n) naturals refl
+    read_by (numbers_after word n) (row_after word None n) naturals refl
     (λ l q. rw (add-one n) (form_by (same (get_or (fields l) 0 []) word) (eqb (length (fields l)) (suc n)) _ _ naturals refl
-    (λ e. number_fields n 0 (drop 1 (fields l)) (omega (arith, eqb-true (length (fields l)) (suc n) e, length-drop 1 (fields l)))))) s
+    (λ e. number_fields 0 (drop 1 (fields l))))) s
 
 -- ---- an account
 
@@ -118,7 +118,7 @@ account_in zs =
       member = get_or zs 0 (pos 0) ⁺;
       number = get_or zs 1 (pos 0) ⁺;
       kind = get_or zs 2 (pos 0) ⁺;
-      npvs = get_or zs 3 (pos 0) ∷ drop 6 zs;
+      npvs = npvs_in zs;
       margin = get_or zs 4 (pos 0) ⁺;
       extra = get_or zs 5 (pos 0) ⁺;
     }
@@ -159,14 +159,14 @@ account_values (Some x) (Some y) kind (Some z) (Some u) (Some v) (Some r) = by (
     by false false false false = refl
 
 -- stresses stand past the kind
-past_kind : (kind j : ℕ) (fs : List (List ℕ)) → kind < j → values_of kind j fs ≡ every_field signed_of fs
+past_kind : (kind j : ℕ) (fs : List (List ℕ)) → kind < j → values_of (Some kind) j fs ≡ every_field signed_of fs
 unfolding values_of every_field value_of
 past_kind kind j [] h = refl
 past_kind kind j (f ∷ fs) h = rw (ne_eqb j kind (λ e. omega arith), past_kind kind (suc j) fs (omega arith))
 
 account_fields : (k : ℕ) (fs : List (List ℕ)) → list_any foreign fs ≡ false → eqb (length fs) (7 + k) ≡ true
     → account_by (every_field number_of (take 2 (drop 1 fs) ++ take 2 (drop 5 fs))) (every_field signed_of (get_or fs 4 [] ∷ drop 7 fs)) (kind_of (get_or fs 3 []))
-    ≡ account_from (values_of 2 0 (drop 1 fs))
+    ≡ account_from (values_of (Some 2) 0 (drop 1 fs))
 unfolding every_field values_of value_of
 account_fields k (w ∷ a ∷ b ∷ c ∷ d ∷ e ∷ f ∷ fs) q h =
     rw (kind_ascii, number_signed a, number_signed b, number_signed e, number_signed f, past_kind 2 6 fs (omega arith))
@@ -182,9 +182,9 @@ account_fields k (w ∷ a ∷ b ∷ c ∷ []) q h = absurd (let z = eqb-true 4 (
 account_fields k (w ∷ a ∷ b ∷ c ∷ d ∷ []) q h = absurd (let z = eqb-true 5 (7 + k) h in omega arith)
 account_fields k (w ∷ a ∷ b ∷ c ∷ d ∷ e ∷ []) q h = absurd (let z = eqb-true 6 (7 + k) h in omega arith)
 
-pub account_row : (k n : ℕ) (s : List ℕ) → suc n ≡ 7 + k → line_read (account_of k) s ≡ account_from (line_row (bytes "acct") 2 n s)
+pub account_row : (k n : ℕ) (s : List ℕ) → suc n ≡ 7 + k → line_read (account_of k) s ≡ account_from (line_row (bytes "acct") (Some 2) n s)
 unfolding account_of row_after account_from bad_bytes
 account_row k n s e =
-    read_by (account_of k) (row_after (bytes "acct") 2 n) account_from refl
+    read_by (account_of k) (row_after (bytes "acct") (Some 2) n) account_from refl
     (λ l q. rw e (form_by (same (get_or (fields l) 0 []) (bytes "acct")) (eqb (length (fields l)) (7 + k)) _ _ account_from refl
     (account_fields k (fields l) (sym (any_split (ltb 127) tab refl l) ∙ (neither (ltb 512 (length l)) (foreign l) q).1)))) s

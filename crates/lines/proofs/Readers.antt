@@ -1,13 +1,12 @@
 -- What the readers of numbers and of an account answer, from the row that was read: one law for each exit.
 -- A row that is no form's is refused by its signs alone; the kind's value is never negative.
-use Rattle.std.proofs.Common.{◌≡◌, ℕ, zero, suc, ◌+◌, ◌-◌, ◌^◌, ◌<◌, ◌≤◌, Bool, true, false, not, ◌&&◌, cond, eqb, List, [], ◌∷◌, map, length, get_or, take, drop, set, ℤ, pos, sym, refl, ◌∙◌, subst, add-one, append-nil, arith, length-drop, length-set, length-take-le, take_all, take-suc, take-suc-set, drop_of_length-le, w64, Fits, to_z, of_z, eq-eqb, le-ltb}
+use Rattle.std.proofs.Common.{◌≡◌, ℕ, zero, suc, ◌+◌, ◌^◌, ◌<◌, ◌≤◌, Bool, true, false, not, ◌&&◌, cond, eqb, List, [], ◌∷◌, map, length, get_or, take, drop, set, ℤ, pos, sym, refl, ◌∙◌, subst, add-one, arith, length-set, take_all, take-suc, take-suc-set, w64, Fits, to_z, of_z, eq-eqb, le-ltb}
 use Rattle.std.specs.Prelude.{Option, None, Some}
 use mathlib.Core.List.{map-append}
 use lib.Dec.{T}
 use lib.IntN.{nat_abs}
 use lib.Signed.{◌≤ℤ◌, non_neg, mag, lt_z_no}
 use mir.Val.{hbits}
-use borrow.Rule.Slice.PartMut.{put_mid}
 use Rattle.numbers.specs.Signed.{◌⁺}
 use Rattle.numbers.proofs.Signed.{back_ok, to_unsigned, to_unsigned_is}
 use Rattle.numbers.proofs.Lists.{NoneBefore, none_before, none_more, any_found, any_none}
@@ -78,11 +77,11 @@ module _ {values : List ℤ} {numbers : List ℕ} {j : ℕ} (c : Copied values n
 
 -- the row's values, or none
 module _ (word : List ℕ) (n : ℕ) (s : List ℕ) where
-  pub no_numbers : line_row word n n s ≡ None → line_read (numbers_after word n) s ≡ None
+  pub no_numbers : line_row word None n s ≡ None → line_read (numbers_after word n) s ≡ None
   unfolding naturals
   no_numbers e = numbers_row word n s ∙ rw e
 
-  module _ {values : List ℤ} {j : ℕ} (read : line_row word n n s ≡ Some values) where
+  module _ {values : List ℤ} {j : ℕ} (read : line_row word None n s ≡ Some values) where
     pub some_negative : j < length values → is_negative (get_or values j (pos 0)) ≡ true → line_read (numbers_after word n) s ≡ None
     unfolding naturals
     some_negative h e = numbers_row word n s ∙ rw (read, any_found is_negative values (pos 0) j h e)
@@ -109,11 +108,11 @@ also_parts None o l e = absurd (some_none (sym e))
 also_parts (Some x) None l e = absurd (some_none (sym e))
 also_parts (Some x) (Some m) l e = (x, m, refl, refl, some_same e)
 
-values_kind : (kind d j : ℕ) (fs : List (List ℕ)) (l : List ℤ) → j + d ≡ kind → values_of kind j fs ≡ Some l → is_negative (get_or l d (pos 0)) ≡ false
+values_kind : (kind d j : ℕ) (fs : List (List ℕ)) (l : List ℤ) → j + d ≡ kind → values_of (Some kind) j fs ≡ Some l → is_negative (get_or l d (pos 0)) ≡ false
 unfolding values_of also
 values_kind kind d j [] l h e = rw (sym (some_same e)) refl
 values_kind kind d j (f ∷ fs) l h e =
-    let (z, m, y, k, q) = also_parts (value_of (eqb j kind) f) (values_of kind (suc j) fs) l e in
+    let (z, m, y, k, q) = also_parts (value_of (eqb j kind) f) (values_of (Some kind) (suc j) fs) l e in
     subst (λ (x : List ℤ). is_negative (get_or x d (pos 0)) ≡ false) q (by d z m h y (λ i g. values_kind kind i (suc j) fs m g k))
   where
     by : (d : ℕ) (z : ℤ) (m : List ℤ) → j + d ≡ kind → value_of (eqb j kind) f ≡ Some z → ((i : ℕ) → suc j + i ≡ kind → is_negative (get_or m i (pos 0)) ≡ false)
@@ -125,7 +124,7 @@ only : {A : Type 0} (b : Bool) (o : Option A) (x : A) → cond b o None ≡ Some
 only true o x e = e
 only false o x e = absurd (some_none (sym e))
 
-pub row_kind : (word : List ℕ) (kind n : ℕ) (s : List ℕ) (l : List ℤ) → line_row word kind n s ≡ Some l → is_negative (get_or l kind (pos 0)) ≡ false
+pub row_kind : (word : List ℕ) (kind n : ℕ) (s : List ℕ) (l : List ℤ) → line_row word (Some kind) n s ≡ Some l → is_negative (get_or l kind (pos 0)) ≡ false
 unfolding line_read row_after
 row_kind word kind n s l e =
     let fs = fields (before LF s) in
@@ -134,16 +133,12 @@ row_kind word kind n s l e =
 
 -- ---- an account
 
--- how many values are due where m NPVs are, in a row of 22 places
-pub places_due : (m : ℕ) (zs : List ℤ) → length zs ≡ 22 → (0 < m) × (m ≤ 17) → suc (length (take (m + 5) zs)) ≡ 7 + (m - 1)
-places_due m zs l h = omega (arith, length-take-le (m + 5) zs (omega arith))
-
 module _ (s : List ℕ) (k : ℕ) {n : ℕ} (long : suc n ≡ 7 + k) where
-  pub no_account : line_row (bytes "acct") 2 n s ≡ None → line_read (account_of k) s ≡ None
+  pub no_account : line_row (bytes "acct") (Some 2) n s ≡ None → line_read (account_of k) s ≡ None
   unfolding account_from
   no_account e = account_row k n s long ∙ rw e
 
-  module _ {values : List ℤ} (read : line_row (bytes "acct") 2 n s ≡ Some values) where
+  module _ {values : List ℤ} (read : line_row (bytes "acct") (Some 2) n s ≡ Some values) where
     pub signs_bad : signs_wrong values ≡ true → line_read (account_of k) s ≡ None
     unfolding account_from
     signs_bad e = account_row k n s long ∙ rw (read, e)
@@ -151,12 +146,3 @@ module _ (s : List ℕ) (k : ℕ) {n : ℕ} (long : suc n ≡ 7 + k) where
     pub signs_good : signs_wrong values ≡ false → line_read (account_of k) s ≡ Some (account_in values)
     unfolding account_from
     signs_good e = account_row k n s long ∙ rw (read, e)
-
--- the base and the stresses, written one after another
-pub npvs_are : (npvs values stresses : List ℤ) (base : ℤ) → 0 < length npvs → base ≡ get_or values 3 (pos 0) → stresses ≡ take (length values - 6) (drop 6 values)
-    → put_mid 1 (length (set npvs 0 base) - 1) (set npvs 0 base) stresses ≡ get_or values 3 (pos 0) ∷ drop 6 values
-npvs_are [] values stresses base h e k = absurd (omega arith)
-npvs_are (x ∷ npvs) values stresses base h e k =
-    let all : length npvs ≤ suc (length npvs) - 1 = omega arith in
-    let rest : length (drop 6 values) ≤ length values - 6 = omega (arith, length-drop 6 values) in
-    rw (drop_of_length-le npvs all, append-nil stresses, e, k, take_all (length values - 6) (drop 6 values) rest)

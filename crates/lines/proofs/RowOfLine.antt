@@ -3,6 +3,7 @@
 use mathlib.Core.Path.{◌≡◌, refl, sym, ap, ◌∙◌}
 use mathlib.Core.Bool.{Bool, true, false, cond}
 use mathlib.Core.List.{List, [], ◌∷◌}
+use Rattle.std.specs.Option.{option_eq}
 use Rattle.std.specs.Prelude.{Option, None, Some}
 use Prim.Native.Nat.{ℕ, zero, suc, ◌+◌, ◌<◌}
 use native.Mathlib.Omega.{arith}
@@ -47,14 +48,14 @@ pub some_none : {A : Type 0} {x : A} → Some x ≡ None → ⊥
 some_none e = let z : ◌≡◌ {A = ℕ} 0 1 = cc in omega arith
 
 -- the values of the line's fields, if it is a line of n fields
-abbrev pub row_of_line : (kind j n : ℕ) → List ℕ → Option (List ℤ)
+abbrev pub row_of_line : (kind : Option ℕ) (j n : ℕ) → List ℕ → Option (List ℤ)
 row_of_line kind j n s = there (has LF s) (eqb (length (line_fields s)) n) (values_of kind j (line_fields s))
 
 -- a line has a field
 some_field : (s : List ℕ) → (n : ℕ) × (length (line_fields s) ≡ suc n)
 some_field s = (_, ap length (split_first tab (before LF s)))
 
-row_step : (kind j n : ℕ) (s : List ℕ) → ((m : ℕ) → n ≡ suc m → row_at kind (suc j) n (past s) ≡ row_of_line kind (suc j) n (past s)) → Ends s
+row_step : (kind : Option ℕ) (j n : ℕ) (s : List ℕ) → ((m : ℕ) → n ≡ suc m → row_at kind (suc j) n (past s) ≡ row_of_line kind (suc j) n (past s)) → Ends s
     → row_at kind j (suc n) s ≡ row_of_line kind j (suc n) s
 unfolding row_at value_at due values_of also
 row_step kind j zero s ih (at_tab e) =
@@ -63,11 +64,11 @@ row_step kind j zero s ih (at_tab e) =
 row_step kind j zero s ih (at_lf e) = rw (e.ends, e.parts, e.lined)
 row_step kind j zero s ih (nowhere e) = rw (e.ends, e.lined)
 row_step kind j (suc n) s ih (at_tab e) =
-    rw (e.ends, e.parts, ih n refl, e.lined, eqb_suc (length (line_fields (past s))) (suc n)) (also_there (has LF (past s)) (eqb (length (line_fields (past s))) (suc n)) (value_of (eqb j kind) (front s)) (values_of kind (suc j) (line_fields (past s))))
+    rw (e.ends, e.parts, ih n refl, e.lined, eqb_suc (length (line_fields (past s))) (suc n)) (also_there (has LF (past s)) (eqb (length (line_fields (past s))) (suc n)) (value_of (option_eq eqb (Some j) kind) (front s)) (values_of kind (suc j) (line_fields (past s))))
 row_step kind j (suc n) s ih (at_lf e) = rw (e.ends, e.parts, ne_eqb 1 (suc (suc n)) (λ z. omega arith)) (there_none (has LF s) (values_of kind j (front s ∷ [])))
 row_step kind j (suc n) s ih (nowhere e) = rw (e.ends, e.lined)
 
-pub row_line : (kind j n : ℕ) (s : List ℕ) → 0 < n → row_at kind j n s ≡ row_of_line kind j n s
+pub row_line : (kind : Option ℕ) (j n : ℕ) (s : List ℕ) → 0 < n → row_at kind j n s ≡ row_of_line kind j n s
 row_line kind j zero s h = absurd (omega arith)
 row_line kind j (suc n) s h = row_step kind j n s (λ m z. row_line kind (suc j) n (past s) (omega arith)) (ends s)
 
@@ -97,7 +98,7 @@ after_tab s e =
     let z : size s + 1 + suc (index_of LF (past s)) ≡ suc (index_of LF s) = let k = e.length_is in omega arith in
     drop-drop (suc (index_of LF (past s))) (size s + 1) s ∙ ap (λ (m : ℕ). drop m s) z
 
-past_step : (kind j n : ℕ) (s : List ℕ) (l : List ℤ) → ((m : List ℤ) (i : ℕ) → n ≡ suc i → row_at kind (suc j) n (past s) ≡ Some m → past_row n (past s) ≡ after LF (past s)) → Ends s
+past_step : (kind : Option ℕ) (j n : ℕ) (s : List ℕ) (l : List ℤ) → ((m : List ℤ) (i : ℕ) → n ≡ suc i → row_at kind (suc j) n (past s) ≡ Some m → past_row n (past s) ≡ after LF (past s)) → Ends s
     → row_at kind j (suc n) s ≡ Some l → past_row (suc n) s ≡ after LF s
 unfolding row_at past_row due
 past_step kind j zero s l ih (at_tab e) r = absurd (let k = value_end _ _ s _ l r in let m = e.ends in omega arith)
@@ -109,12 +110,12 @@ past_step kind j (suc n) s l ih (at_tab e) r =
 past_step kind j (suc n) s l ih (at_lf e) r = absurd (let k = value_end _ _ s _ l r in let m = e.ends in omega arith)
 past_step kind j (suc n) s l ih (nowhere e) r = absurd (let k = value_end _ _ s _ l r in let m = e.ends in omega arith)
 
-pub past_line : (kind j n : ℕ) (s : List ℕ) (l : List ℤ) → 0 < n → row_at kind j n s ≡ Some l → past_row n s ≡ after LF s
+pub past_line : (kind : Option ℕ) (j n : ℕ) (s : List ℕ) (l : List ℤ) → 0 < n → row_at kind j n s ≡ Some l → past_row n s ≡ after LF s
 past_line kind j zero s l h r = absurd (omega arith)
 past_line kind j (suc n) s l h r = past_step kind j n s l (λ m i z k. past_line kind (suc j) n (past s) m (omega arith) k) (ends s) r
 
 -- and an LF ends the line
-pub row_lined : (kind j n : ℕ) (s : List ℕ) (l : List ℤ) → 0 < n → row_at kind j n s ≡ Some l → has LF s ≡ true
+pub row_lined : (kind : Option ℕ) (j n : ℕ) (s : List ℕ) (l : List ℤ) → 0 < n → row_at kind j n s ≡ Some l → has LF s ≡ true
 row_lined kind j n s l h r = by (has LF s) (sym (row_line kind j n s h) ∙ r)
   where
     by : (b : Bool) → there b (eqb (length (line_fields s)) n) (values_of kind j (line_fields s)) ≡ Some l → b ≡ true

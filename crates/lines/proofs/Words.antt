@@ -61,15 +61,15 @@ module _ (word : List ℕ) (letters : not_letters word ≡ false) where
     first_is : first ≡ before tab s
     first_is = ap (λ (l : List (List ℕ)). get_or l 0 []) (split_first tab s)
 
-    no_line : (kind n : ℕ) → has LF s ≡ false → line_row word kind n s ≡ None
+    no_line : (kind : Option ℕ) (n : ℕ) → has LF s ≡ false → line_row word kind n s ≡ None
     unfolding line_read
     no_line kind n e = rw e
 
-    other_form : (kind n : ℕ) → row_after word kind n (before LF s) ≡ None → line_row word kind n s ≡ None
+    other_form : (kind : Option ℕ) (n : ℕ) → row_after word kind n (before LF s) ≡ None → line_row word kind n s ≡ None
     unfolding line_read
     other_form kind n e = rw e (none_either (has LF s && not (bad_bytes (before LF s))))
 
-    other_case : (kind n : ℕ) → 0 < n → same first word ≡ false → Ends s → line_row word kind n s ≡ None
+    other_case : (kind : Option ℕ) (n : ℕ) → 0 < n → same first word ≡ false → Ends s → line_row word kind n s ≡ None
     unfolding row_after
     other_case kind n h e (at_tab t) =
         let k : same (front s) word ≡ false = ap (λ (l : List ℕ). same l word) (sym t.word_is ∙ sym first_is) ∙ e in
@@ -81,7 +81,7 @@ module _ (word : List ℕ) (letters : not_letters word ≡ false) where
         by false = refl
     other_case kind n h e (nowhere t) = no_line kind n t.lined
 
-    pub other_word : (kind n : ℕ) → 0 < n → same first word ≡ false → line_row word kind n s ≡ None
+    pub other_word : (kind : Option ℕ) (n : ℕ) → 0 < n → same first word ≡ false → line_row word kind n s ≡ None
     other_word kind n h e = other_case kind n h e (ends s)
 
     module _ (e : same first word ≡ true) where
@@ -97,12 +97,12 @@ module _ (word : List ℕ) (letters : not_letters word ≡ false) where
       size_is : Tab s → size s ≡ length word
       size_is t = sym (length-take-le (size s) s (first_le stops s)) ∙ ap length (front_is t)
 
-      short_case : (kind n : ℕ) → length s ≤ length word → Ends s → line_row word kind n s ≡ None
+      short_case : (kind : Option ℕ) (n : ℕ) → length s ≤ length word → Ends s → line_row word kind n s ≡ None
       short_case kind n h (at_tab t) = absurd (let k = size_is t in let l = inside s (size s) tab t.ends (λ z. omega arith) in omega arith)
       short_case kind n h (at_lf t) = absurd (not_last t)
       short_case kind n h (nowhere t) = no_line kind n t.lined
 
-      pub no_room : (kind n : ℕ) → length s ≤ length word → line_row word kind n s ≡ None
+      pub no_room : (kind : Option ℕ) (n : ℕ) → length s ≤ length word → line_row word kind n s ≡ None
       no_room kind n h = short_case kind n h (ends s)
 
       module _ (h : length word < length s) where
@@ -122,7 +122,7 @@ module _ (word : List ℕ) (letters : not_letters word ≡ false) where
         rest_is = ap (λ (m : ℕ). drop (m + 1) s) (size_is is_tab)
 
         -- a line that is not ASCII has no row
-        foreign_none : (kind : ℕ) → foreign (before LF s) ≡ true → values_of kind 0 (line_fields (past s)) ≡ None
+        foreign_none : (kind : Option ℕ) → foreign (before LF s) ≡ true → values_of kind 0 (line_fields (past s)) ≡ None
         foreign_none kind f = by (values_of kind 0 (line_fields (past s))) refl
           where
             in_fields : foreign (before LF s) ≡ list_any foreign (line_fields (past s))
@@ -136,14 +136,14 @@ module _ (word : List ℕ) (letters : not_letters word ≡ false) where
         length_is = length-take-le (index_of LF s) s (first_le (λ x. eqb x LF) s)
 
         -- the values of what follows the word, if there are n fields
-        abbrev values : (kind n : ℕ) → Option (List ℤ)
+        abbrev values : (kind : Option ℕ) (n : ℕ) → Option (List ℤ)
         values kind n = cond (eqb (length (line_fields (past s))) n) (values_of kind 0 (line_fields (past s))) None
 
-        values_are : (kind n : ℕ) → row_after word kind n (before LF s) ≡ values kind n
+        values_are : (kind : Option ℕ) (n : ℕ) → row_after word kind n (before LF s) ≡ values kind n
         unfolding row_after
         values_are kind n = rw (is_tab.parts, front_is is_tab, same_refl word, eqb_suc (length (line_fields (past s))) n)
 
-        by_values : (kind n : ℕ) → line_row word kind n s ≡ cond (ltb 512 (index_of LF s)) None (cond (has LF s) (values kind n) None)
+        by_values : (kind : Option ℕ) (n : ℕ) → line_row word kind n s ≡ cond (ltb 512 (index_of LF s)) None (cond (has LF s) (values kind n) None)
         unfolding line_read bad_bytes
         by_values kind n = rw (values_are kind n, length_is) (by (has LF s) (ltb 512 (index_of LF s)) (foreign (before LF s)) refl)
           where
@@ -154,13 +154,13 @@ module _ (word : List ℕ) (letters : not_letters word ≡ false) where
             by true false false q = refl
             by true false true q = rw (foreign_none kind q) (sym (none_either (eqb (length (line_fields (past s))) n)))
 
-        pub row_after_lem : (kind n : ℕ) → 0 < n → line_row word kind n s ≡ cond (ltb 512 (index_of LF s)) None (row_at kind 0 n rest)
+        pub row_after_lem : (kind : Option ℕ) (n : ℕ) → 0 < n → line_row word kind n s ≡ cond (ltb 512 (index_of LF s)) None (row_at kind 0 n rest)
         row_after_lem kind n due =
             by_values kind n
             ∙ ap (λ (o : Option (List ℤ)). cond (ltb 512 (index_of LF s)) None o) (ap (λ (b : Bool). cond b (values kind n) None) is_tab.lined ∙ sym (row_line kind 0 n (past s) due) ∙ ap (row_at kind 0 n) rest_is)
 
         -- a reader of what follows the word, and what it answers
-        module _ (kind n : ℕ) (due : 0 < n) (u : List ℕ) (same_rest : u ≡ rest) where
+        module _ (kind : Option ℕ) (n : ℕ) (due : 0 < n) (u : List ℕ) (same_rest : u ≡ rest) where
           row_is : line_row word kind n s ≡ cond (ltb 512 (index_of LF s)) None (row_at kind 0 n u)
           row_is = row_after_lem kind n due ∙ ap (λ (x : List ℕ). cond (ltb 512 (index_of LF s)) None (row_at kind 0 n x)) (sym same_rest)
 

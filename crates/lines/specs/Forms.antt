@@ -3,6 +3,7 @@
 use Rattle.std.specs.Prelude.{Bool, ◌&&◌, cond, List, [], ◌∷◌, ℕ, suc, eqb, ℤ, pos, length, get_or, drop}
 use Rattle.std.specs.Prelude.{Option, None, Some}
 use Rattle.std.specs.Int.Signed.{lt_z}
+use Rattle.std.specs.Option.{option_eq}
 use Rattle.std.specs.List.{list_any}
 use Rattle.methodology.specs.Refusals.{outside}
 use Rattle.methodology.specs.Text.{same, fields, also, AccountLine}
@@ -14,22 +15,26 @@ use Rattle.lines.specs.declared.AccountTerms.{AccountTerms}
 abbrev pub not_letters : List ℕ → Bool
 not_letters word = list_any (outside 97 122) word
 
--- the values of fields from field j on: field `place` is a kind, the others are signed numbers
-unfoldable pub values_of : (place j : ℕ) → List (List ℕ) → Option (List ℤ)
-values_of place j [] = Some []
-values_of place j (f ∷ fs) = also (value_of (eqb j place) f) (values_of place (suc j) fs)
+-- the values of fields from field j on: the one in `kind_place` is a kind, the others are signed numbers
+unfoldable pub values_of : (kind_place : Option ℕ) → (j : ℕ) → List (List ℕ) → Option (List ℤ)
+values_of kind_place j [] = Some []
+values_of kind_place j (f ∷ fs) = also (value_of (option_eq eqb (Some j) kind_place) f) (values_of kind_place (suc j) fs)
 
 -- the values of the n fields after a line's word
-unfoldable pub row_after : (word : List ℕ) → (place n : ℕ) → (line : List ℕ) → Option (List ℤ)
-row_after word place n line =
-    cond (same (get_or (fields line) 0 []) word && eqb (length (fields line)) (suc n)) (values_of place 0 (drop 1 (fields line))) None
+unfoldable pub row_after : (word : List ℕ) → (kind_place : Option ℕ) → (n : ℕ) → (line : List ℕ) → Option (List ℤ)
+row_after word kind_place n line =
+    cond (same (get_or (fields line) 0 []) word && eqb (length (fields line)) (suc n)) (values_of kind_place 0 (drop 1 (fields line))) None
 
 -- those of the line at the front of a text
-abbrev pub line_row : (word : List ℕ) → (place n : ℕ) → (text : List ℕ) → Option (List ℤ)
-line_row word place n s = line_read (row_after word place n) s
+abbrev pub line_row : (word : List ℕ) → (kind_place : Option ℕ) → (n : ℕ) → (text : List ℕ) → Option (List ℤ)
+line_row word kind_place n s = line_read (row_after word kind_place n) s
 
 abbrev pub is_negative : ℤ → Bool
 is_negative z = lt_z z (pos 0)
+
+-- the NPVs of an account's row: its base, and then its stresses, which stand behind its extra
+abbrev pub npvs_in : List ℤ → List ℤ
+npvs_in values = get_or values 3 (pos 0) ∷ drop 6 values
 
 -- an account with its NPVs, as document 01's form of a line has it
 abbrev pub account_line : AccountTerms → (npvs : List ℤ) → AccountLine

@@ -2,7 +2,7 @@
 use mathlib.Core.Path.{◌≡◌, refl, sym, ap, ◌∙◌}
 use mathlib.Core.Bool.{Bool, true, false, cond}
 use mathlib.Core.List.{List, [], ◌∷◌, ◌++◌, append-nil}
-use Rattle.std.specs.Prelude.{None, Some}
+use Rattle.std.specs.Prelude.{None, Some, is_err}
 use Prim.Native.Nat.{ℕ, suc, ◌+◌, ◌≤◌, ◌<◌}
 use native.Mathlib.Omega.{arith}
 use native.Mathlib.Numerals.{add-one}
@@ -24,7 +24,7 @@ use Rattle.period.specs.declared.Reply.{Reply}
 use Rattle.period.specs.Reading.{brought}
 use Rattle.period.specs.Calls.{fresh_period, OpeningMeets}
 use Rattle.answers.specs.InStep.{InStep}
-use Rattle.answers.specs.Said.{said, is_over}
+use Rattle.answers.specs.Said.{said}
 use Rattle.answers.proofs.CallsSaid.{opening_said, opening_in_step}
 use Rattle.accounts.proofs.Line.{line_shorter}
 use Rattle.day.specs.Turns.{days_due}
@@ -122,9 +122,9 @@ module _ (rest : List ℕ) (o : Opening) (r : Reply) (m : OpeningMeets fresh_per
   abbrev after_members : Expected → List ℕ
   after_members e = report_from (2 + o.n) (split LF rest) e
 
-  pub opening_ends : is_over r.outcome ≡ true → Prints p (opening_due rest o) q
+  pub opening_ends : is_err r.outcome ≡ true → Prints p (opening_due rest o) q
   opening_ends e = rw (opening_said o r m after_members, e, append-nil (said r.outcome 0 1 0 [])) w
 
-  pub opening_goes_on : is_over r.outcome ≡ false → {s : Printer}
+  pub opening_goes_on : is_err r.outcome ≡ false → {s : Printer}
       → ((g : Register) → InStep g r.period o.n o.k → Prints q (days_due rest (2 + o.n) g) s) → Prints p (opening_due rest o) s
   opening_goes_on e f = rw (opening_said o r m after_members, e) (prints_then w (f _ (opening_in_step o r m e)))

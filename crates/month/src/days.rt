@@ -40,7 +40,7 @@ fn turn<'a>(from: Progress<'a>, places: &mut Places, printer: &mut Printer) -> O
         printer.refusal(Refusal::BadLine, from.line);
         return None;
     };
-    let ([number, count], rest) = line;
+    let ([number, count], rest) = line; // not in the pattern above: an array under `Some` has no proof
     if count_outside(count) {
         printer.refusal(Refusal::BadLengths, from.line);
         return None;

@@ -4,7 +4,7 @@ ghost use Rattle.report.specs.Prints.{Prints};
 ghost use Rattle.month.specs.MemberLines.{members_due, MembersRead, MemberBad};
 
 use crate::days::days;
-use answers::{is_over, say};
+use answers::say;
 use day::Progress;
 use lines::numbers;
 use methodology::Refusal;
@@ -21,7 +21,7 @@ fn read_members<'a>(text: &'a [u8], groups: &mut [u64]) -> Result<&'a [u8], usiz
         let Some(line) = numbers::<2>(rest, b"member") else {
             return Err(j);
         };
-        let ([member, group], next) = line;
+        let ([member, group], next) = line; // not in the pattern above: an array under `Some` has no proof
         if member != j as u64 + 1 {
             return Err(j);
         }
@@ -45,7 +45,7 @@ pub fn from_members(text: &[u8], n: u64, k: u64, printer: &mut Printer)
     };
     let Reply { period, outcome } = Period::fresh().opening(n, k, groups);
     say(printer, outcome, 0, 1, 0, &[]); // no day's number, line 1, no figures of members
-    if is_over(outcome) {
+    if outcome.is_err() {
         return;
     }
     let from = Progress {

@@ -72,15 +72,15 @@ charges {p} r i h =
     record { bounded = r.bounded; month = omega (arith, r.counted, r.month); shares = rw (get_or-take p.held.n p.accrued.sums i 0 k) (r.sums i) }
 
 -- a day or a closing that rows 2 and 4 let pass
-pub record Ready (p : Period) (each room : ℕ) : Type 0 where
+pub record Ready (p : Period) (width room : ℕ) : Type 0 where
   pub in_range_lem : Ranged p
-  pub room_long : room ≡ each * p.held.n
+  pub room_long : room ≡ width * p.held.n
 
-pub ready : (p : Period) (each room : ℕ) → output_row p each room ≡ clear → Ready p each room
+pub ready : (p : Period) (width room : ℕ) → output_row p width room ≡ clear → Ready p width room
 unfolding output_row
-ready p each room e =
+ready p width room e =
     let (o, r) = passed OutOfTurn (not (is_open (status_of p))) _ e in
-    let (l, _) = passed BadLengths (not (eqb room (each * p.held.n))) _ r in
+    let (l, _) = passed BadLengths (not (eqb room (width * p.held.n))) _ r in
     record { in_range_lem = open_ranged p (not-false _ o); room_long = eqb-true _ _ (not-false _ l) }
 
 pub closable : (p : Period) (room : ℕ) → closing_row p room ≡ clear → Ready p 3 room

@@ -68,9 +68,9 @@ pub record OpeningMeets (p : Period) (o : Opening) (r : Reply) : Type 0 where
   pub answer : answer_of r.outcome ≡ answer_by (opening_row p o) []
   pub period : r.period ≡ if_accepted (opening_row p o) (opened_period o) p
 
--- rows 2 and 4 of a day or a closing, whose output is `room` long, where `each` numbers a member are due
-unfoldable pub output_row : Period → (each room : ℕ) → Verdict
-output_row p each room = row OutOfTurn when not (is_open (status_of p)) else row BadLengths when not (eqb room (each * p.held.n)) else clear
+-- rows 2 and 4 of a day or a closing, whose output is `room` long, where `width` numbers a member are due
+unfoldable pub output_row : Period → (width room : ℕ) → Verdict
+output_row p width room = row OutOfTurn when not (is_open (status_of p)) else row BadLengths when not (eqb room (width * p.held.n)) else clear
 
 -- ---- day
 

@@ -59,7 +59,7 @@ impl Accrued {
 }
 
 // Groups in 32 places, with 0 past the last.
-fn in_places(groups: &[u64]) -> [u64; 32]
+fn group_places(groups: &[u64]) -> [u64; 32]
     requires { length groups.now ≤ 32 }
     ensures { result ≡ map (λ i. get_or groups.now i 0) (range 0 32) }
 {
@@ -72,12 +72,12 @@ impl Period {
     pub fn fresh() -> Period
         ensures { result ≡ fresh_period }
     {
-        let none = Opening {
+        let no_opening = Opening {
             n: 0,
             k: 0,
             groups: [0; 32],
         };
-        Period::without_days(Status::Fresh, none)
+        Period::without_days(Status::Fresh, no_opening)
     }
 
     // A period with this opening and no day: "M, D, the last accepted day number and all sums 0".
@@ -105,7 +105,11 @@ impl Period {
             && self.accrued.days <= self.accrued.last
             && self.accrued.highest <= GREATEST_TOTAL
             && self.held.n <= 32
-            && !bad_opening(self.held, &self.held.groups[..self.held.n as usize])
+            && !bad_opening(
+                self.held.n,
+                self.held.k,
+                &self.held.groups[..self.held.n as usize],
+            )
             && !self.accrued.sums_above(self.accrued.days * quotient::SCALE)
     }
 
@@ -116,15 +120,15 @@ impl Period {
         self.status == Status::Open && self.in_range()
     }
 
-    // The first rows of a day or a closing, in their order: 2, 4. Its output is `room` long, and `each` numbers a member are due.
-    fn output_row(&self, each: u64, room: usize) -> Result<(), Refusal>
-        requires { each ≤ 5 }
-        ensures { result ≡ output_row self.now each room }
+    // The first rows of a day or a closing, in their order: 2, 4. Its output is `room` long, and `width` numbers a member are due.
+    fn output_row(&self, width: u64, room: usize) -> Result<(), Refusal>
+        requires { width ≤ 5 }
+        ensures { result ≡ output_row self.now width room }
     {
         if !self.is_open() {
             return Err(Refusal::OutOfTurn);
         }
-        if room as u64 != each * self.held.n {
+        if room as u64 != width * self.held.n {
             return Err(Refusal::BadLengths);
         }
         Ok(())
@@ -134,18 +138,17 @@ impl Period {
     fn open(&mut self, n: u64, k: u64, groups: &[u64]) -> Result<Accepted, Refusal>
         ensures { OpeningMeets self.old (brought n k groups.now) (record { period = self.new; outcome = result }) }
     {
-        let mut opening = Opening {
-            n,
-            k,
-            groups: [0; 32],
-        };
         if self.is_open() {
             return Err(Refusal::OutOfTurn);
         }
-        if bad_opening(opening, groups) {
+        if bad_opening(n, k, groups) {
             return Err(Refusal::BadOpening);
         }
-        opening.groups = in_places(groups);
+        let opening = Opening {
+            n,
+            k,
+            groups: group_places(groups),
+        };
         *self = Period::without_days(Status::Open, opening);
         Ok(Accepted::Opened)
     }

@@ -126,23 +126,26 @@ fn first_bad_amount(k: usize, day: &Day) -> Option<usize>
     None
 }
 
-// The limits of an NPV, and that of a margin.
-const LOWEST: i64 = -1_000_000_000_000;
-
-const HIGHEST: i64 = 1_000_000_000_000;
-
+// The limit of a margin, and of an NPV on either side of 0.
 const LIMIT: u64 = 1_000_000_000_000;
 
 // Whether an account has a bad amount: an NPV or the margin outside its limits, or the extra above the margin.
 fn bad_amounts(row: &[i64], margin: u64, extra: u64) -> bool
     ensures { result ≡ (list_any npv_outside row.now || outside_limits 0 limit margin || ltb margin extra) }
 {
-    npv_outside(row) || margin > LIMIT || margin < extra
+    any_npv_outside(row) || margin > LIMIT || margin < extra
 }
 
 // Whether an NPV of a row is outside its limits.
-fn npv_outside(row: &[i64]) -> bool
+fn any_npv_outside(row: &[i64]) -> bool
     ensures { result ≡ list_any npv_outside row.now }
 {
-    row.iter().any(|&z| z < LOWEST || HIGHEST < z)
+    row.iter().any(|&z| npv_outside(z))
+}
+
+// Whether an NPV is outside its limits.
+fn npv_outside(z: i64) -> bool
+    ensures { result ≡ npv_outside z }
+{
+    z.unsigned_abs() > LIMIT
 }

@@ -1,7 +1,6 @@
 // Rows 1, 3 and 4 of the refusal table: the limits of what an opening brings, of a day's number, and of a day's lengths.
 ghost use Rattle.std.specs.Prelude.{◌≡◌, ◌≤◌};
 ghost use Rattle.std.specs.List.{list_any};
-ghost use Rattle.methodology.specs.Account.{with_groups};
 ghost use Rattle.methodology.specs.Brought.{day_brought};
 ghost use Rattle.methodology.specs.Refusals.{outside as outside_limits, n_outside, k_outside, group_outside, bad_opening, bad_day_number, count_outside, bad_input};
 
@@ -11,7 +10,7 @@ use methodology::{Day, Opening};
 pub(crate) fn outside(least: u64, most: u64, x: u64) -> bool
     ensures { result ≡ outside_limits least most x }
 {
-    x < least || most < x
+    !(least..=most).contains(&x)
 }
 
 // "n members, numbered 1 to n (1 to 32)".
@@ -36,21 +35,18 @@ pub fn count_outside(count: u64) -> bool
 }
 
 // Whether a group number of the list is not 0 to 32.
-fn group_outside(groups: &[u64]) -> bool
+fn any_group_outside(groups: &[u64]) -> bool
     ensures { result ≡ list_any group_outside groups.now }
 {
     groups.iter().any(|&group| outside(0, 32, group))
 }
 
-// Whether row 1 is met by an opening with these groups: in a call they are a list of any length.
+// Whether row 1 is met by what an opening brings.
 #[tactic(auto, unfolding(methodology::specs::Refusals::bad_opening))]
-pub fn bad_opening(opening: Opening, groups: &[u64]) -> bool
-    ensures { result ≡ bad_opening (with_groups opening groups.now) }
+pub fn bad_opening(n: u64, k: u64, groups: &[u64]) -> bool
+    ensures { result ≡ bad_opening (record { n = n; k = k; groups = groups.now }) }
 {
-    n_outside(opening.n)
-        || k_outside(opening.k)
-        || group_outside(groups)
-        || groups.len() as u64 != opening.n
+    n_outside(n) || k_outside(k) || any_group_outside(groups) || groups.len() as u64 != n
 }
 
 // Whether row 3 is met, where `last` is the last accepted day number.

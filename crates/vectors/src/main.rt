@@ -17,7 +17,7 @@ fn run_month<'a>(rt: &impl Print, text: &'a [u8], out: &mut [u8]) -> io::Result<
     let Some(line) = numbers::<2>(text, b"month") else {
         return Ok(None);
     };
-    let ([number, size], rest) = line;
+    let ([number, size], rest) = line; // not in the pattern above: an array under `Some` has no proof
     let Some((month, next)) = rest.split_at_checked(size as usize) else {
         return Ok(None);
     };

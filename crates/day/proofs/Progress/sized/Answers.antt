@@ -13,22 +13,22 @@ say-requires c =
     let outcome = day_outcome called.ensures in
     let room = called.auto.out ∙ length-take-le _ _ (omega (arith, few)) in
     record {
-      n_bound = (few, omega (arith, day_width c.args.self.n outcome, room));
+      n_in_bounds = omega (arith, day_width c.args.self.n outcome, room);
       every = day_sums called.ensures c.args.self.n few;
       line_bound = omega (arith, day_line c.args.self.line outcome, c.args.self.counted);
     }
 
-pub returns-then-is_over-clause-turn_meets : goal.returns-then-is_over-clause-turn_meets
-returns-then-is_over-clause-turn_meets c =
+pub returns-then-is_err-clause-turn_meets : goal.returns-then-is_err-clause-turn_meets
+returns-then-is_err-clause-turn_meets c =
     let few = c.args.self.limits.0 in
     λ g h.
     day_over g c.args.self h _ _ _ _ c.day-outcome.ensures (length-take-le _ _ (omega (arith, few))) _ _ c.say.ensures
-    (sym c.is_over.ensures ∙ c.if-is_over.true)
+    (sym c.is_err.ensures.value ∙ c.if-is_err.true)
 
 pub returns-clause-turn_meets : goal.returns-clause-turn_meets
 returns-clause-turn_meets c =
     let few = c.args.self.limits.0 in
     λ g h.
     day_on g c.args.self h _ _ _ _ c.day-outcome.ensures (length-take-le _ _ (omega (arith, few))) _ _ c.say.ensures
-    (sym c.is_over.ensures ∙ c.if-is_over.false) _ refl refl
-    (day_in_step _ _ g _ h _ 0 _ _ _ c.day-outcome.ensures (length-take-le _ _ (omega (arith, few))) (sym c.is_over.ensures ∙ c.if-is_over.false))
+    (sym c.is_err.ensures.value ∙ c.if-is_err.false) _ refl refl
+    (day_in_step _ _ g _ h _ 0 _ _ _ c.day-outcome.ensures (length-take-le _ _ (omega (arith, few))) (sym c.is_err.ensures.value ∙ c.if-is_err.false))

@@ -16,7 +16,7 @@ say-requires c =
     let outcome = closing_outcome called.ensures in
     let room = called.auto.out ∙ length-take-le _ _ (omega (arith, few)) in
     record {
-      n_bound = (few, omega (arith, closing_width c.args.from.n outcome, room));
+      n_in_bounds = omega (arith, closing_width c.args.from.n outcome, room);
       every = closing_sums c.args.from.n called.new.out outcome;
       line_bound = omega (arith, closing_line c.args.from.line outcome, c.args.from.counted);
     }

@@ -11,16 +11,16 @@ say-requires-clause-every c = opening_sums 0 _ (opening_outcome c.opening-outcom
 pub say-requires-clause-line_bound : goal.say-requires-clause-line_bound
 say-requires-clause-line_bound c = omega (arith, opening_line 1 (opening_outcome c.opening-outcome.ensures))
 
-pub returns-then-is_over : goal.returns-then-is_over
-returns-then-is_over c =
+pub returns-then-is_err : goal.returns-then-is_err
+returns-then-is_err c =
     let many = c.read_members.auto.groups ∙ length-take-le _ _ (omega arith) in
     let read = rw many at (c.in-Ok.ensures.due c.args.k) in
     let opened = rw c.fresh.ensures at c.opening-outcome.ensures in
-    rw read (opening_ends c.in-Ok.rest.now _ _ opened c.say.ensures (sym c.is_over.ensures ∙ c.if-is_over.true))
+    rw read (opening_ends c.in-Ok.rest.now _ _ opened c.say.ensures (sym c.is_err.ensures.value ∙ c.if-is_err.true))
 
 pub returns : goal.returns
 returns c =
     let many = c.read_members.auto.groups ∙ length-take-le _ _ (omega arith) in
     let read = rw many at (c.in-Ok.ensures.due c.args.k) in
     let opened = rw c.fresh.ensures at c.opening-outcome.ensures in
-    rw read (opening_goes_on c.in-Ok.rest.now _ _ opened c.say.ensures (sym c.is_over.ensures ∙ c.if-is_over.false) c.days.ensures)
+    rw read (opening_goes_on c.in-Ok.rest.now _ _ opened c.say.ensures (sym c.is_err.ensures.value ∙ c.if-is_err.false) c.days.ensures)

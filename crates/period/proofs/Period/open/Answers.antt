@@ -11,9 +11,9 @@ returns-then-is_open c = while_open _ _ (sym c.if-is_open.ensures)
 pub returns-then-bad_opening : goal.returns-then-bad_opening
 returns-then-bad_opening c = out_of_limits _ _ (sym c.if-is_open.ensures) (sym c.if-bad_opening.ensures)
 
-pub in_places-opening-requires : goal.in_places-opening-requires
-in_places-opening-requires c = let o = opening_leaves _ (sym c.if-bad_opening.ensures) in omega (arith, o.groups_long, o.members_few)
+pub group_places-requires : goal.group_places-requires
+group_places-requires c = let o = opening_leaves _ (sym c.if-bad_opening.ensures) in omega (arith, o.groups_long, o.members_few)
 
 pub returns : goal.returns
 returns c =
-    rw c.without_days.ensures (opening_accepted _ _ (sym c.if-is_open.ensures) (sym c.if-bad_opening.ensures) _ c.in_places-opening.ensures)
+    rw c.without_days.ensures (opening_accepted _ _ (sym c.if-is_open.ensures) (sym c.if-bad_opening.ensures) _ c.group_places.ensures)

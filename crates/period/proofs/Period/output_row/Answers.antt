@@ -12,13 +12,13 @@ pub returns-then-not-is_open : goal.returns-then-not-is_open
 unfolding output_row row◌when◌else◌
 returns-then-not-is_open c = rw (sym c.if-not-is_open.ensures)
 
-pub overflow_mul-each : goal.overflow_mul-each
-overflow_mul-each c = omega (arith, mul-le-mul c.requires (held_opened (open_ranged _ (sym c.if-not-is_open.ensures))).members_few)
+pub overflow_mul-width : goal.overflow_mul-width
+overflow_mul-width c = omega (arith, mul-le-mul c.requires (held_opened (open_ranged _ (sym c.if-not-is_open.ensures))).members_few)
 
-pub returns-then-room-each : goal.returns-then-room-each
+pub returns-then-room-width : goal.returns-then-room-width
 unfolding output_row row◌when◌else◌
-returns-then-room-each c = rw (sym c.if-not-is_open.ensures, ne_eqb _ _ c.if-room-each.true)
+returns-then-room-width c = rw (sym c.if-not-is_open.ensures, ne_eqb _ _ c.if-room-width.true)
 
 pub returns : goal.returns
 unfolding output_row row◌when◌else◌
-returns c = rw (sym c.if-not-is_open.ensures, eq-eqb _ _ c.if-room-each.false)
+returns c = rw (sym c.if-not-is_open.ensures, eq-eqb _ _ c.if-room-width.false)

@@ -1,9 +1,9 @@
--- `in_places` meets its contract: past the groups stands 0, as past the end of a list.
+-- `group_places` meets its contract: past the groups stands 0, as past the end of a list.
 use Rattle.std.proofs.Common.{◌≡◌, List, [], ◌∷◌, ◌++◌, map, ℕ, zero, suc, ◌-◌, ◌≤◌, length, get_or, drop, replicate, refl, ap, ◌∙◌, zero-add, arith, length-append}
 use Rattle.std.proofs.lemmas.List.{drop-replicate, length-replicate}
 use Rattle.numbers.specs.Lists.{range}
 use Rattle.numbers.proofs.Lists.{is_table, replicate_at}
-use Rattle.period.proofs.in_places.Goals as goal
+use Rattle.period.proofs.group_places.Goals as goal
 
 filled_at : (xs : List ℕ) (m i : ℕ) → get_or (xs ++ replicate m 0) i 0 ≡ get_or xs i 0
 filled_at [] m i = replicate_at m i 0
