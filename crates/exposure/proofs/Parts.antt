@@ -9,7 +9,7 @@ use lib.Dec.{eqb, leb, ltb}
 use lib.ListN.{length, get_or}
 use borrow.Author.Tests.{eq-eqb, ne_eqb, eqb-true, eqb-false, leb-true, le-leb, lt-leb, ltb-false}
 use Rattle.std.specs.Prelude.{Option, unwrap_or}
-use Rattle.std.specs.List.{position, position_or_len}
+use Rattle.std.specs.List.{between, position, position_or_len}
 use Rattle.std.proofs.lemmas.Bool.{not-true, not-false}
 use Rattle.std.proofs.lemmas.List.Sums.{prefix_len-le-length, fails_before_first, passes_at_first}
 use Rattle.numbers.proofs.Lists.{◌∈◌, by_steps, mem_at, mem_keep, keep_part}
@@ -20,7 +20,7 @@ use Rattle.methodology.proofs.RowLimits.{accounts_long}
 use Rattle.validation.specs.Slices.{Rising, none}
 use Rattle.validation.proofs.Amounts.{accounts_at}
 use Rattle.validation.proofs.Parts.{accounts_part}
-use Rattle.exposure.specs.MemberCut.{between, from_member}
+use Rattle.exposure.specs.MemberCut.{from_member}
 
 -- the accounts that are lent from index a to index b - 1
 pub part_accounts : (k : ℕ) (d : DayInput) (a b : ℕ) → a ≤ b → b ≤ length d.headings

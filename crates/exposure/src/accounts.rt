@@ -20,12 +20,12 @@ pub struct Accounts<'a> {
 
 impl<'a> Accounts<'a> {
     ghost use Rattle.std.specs.Prelude.{◌≡◌, ◌==◌, not, ◌+◌, ◌≤◌, length, nat_abs, unwrap_or};
-    ghost use Rattle.std.specs.List.{position};
+    ghost use Rattle.std.specs.List.{between, position};
     ghost use Rattle.methodology.specs.Account.{accounts, eul_under};
     ghost use Rattle.methodology.specs.Brought.{day_brought};
     ghost use Rattle.methodology.specs.Member.{accounts_of, member_eul};
     ghost use Rattle.exposure.specs.Scenario.{stress_read, eul_by};
-    ghost use Rattle.exposure.specs.MemberCut.{between, from_member};
+    ghost use Rattle.exposure.specs.MemberCut.{from_member};
     ghost use Rattle.exposure.specs.GroupRows.{row_of};
     ghost use Rattle.exposure.specs.AccountsIn.{accounts_in, most_eul, RowIs};
 
