@@ -6,7 +6,8 @@ use native.Mathlib.Nat.{sub-zero}
 use native.Mathlib.Numerals.{add-one}
 use native.Mathlib.Omega.{arith}
 use lib.ListN.{get_or}
-use Rattle.numbers.specs.Lists.{range, Every}
+use Rattle.std.specs.List.{AllByRecursion}
+use Rattle.numbers.specs.Lists.{range}
 use Rattle.numbers.specs.Sums.{Σ}
 use Rattle.numbers.proofs.Lists.{range_length, part_at, every_at, every_take, every_drop}
 use Rattle.numbers.proofs.Sums.{Σ-bound}
@@ -53,14 +54,14 @@ module _ (width n : ℕ) (out : List ℕ) (c : ℕ) where
 abbrev AtMost : (most x : ℕ) → Type 0
 AtMost most x = x ≤ most
 
-column_few : (width n c most : ℕ) (out : List ℕ) → Every (AtMost most) out → column_sum width n out c ≤ n * most
+column_few : (width n c most : ℕ) (out : List ℕ) → AllByRecursion (AtMost most) out → column_sum width n out c ≤ n * most
 unfolding column_sum
 column_few width n c most out h =
     let few = AtMost most in
-    let part : (m : ℕ) → Every few (stretch width m out) = λ m. every_take few width _ (every_drop few (width * (m - 1)) out h) in
+    let part : (m : ℕ) → AllByRecursion few (stretch width m out) = λ m. every_take few width _ (every_drop few (width * (m - 1)) out h) in
     rw (range_length 1 n) at (Σ-bound (members n) _ most (λ m i. every_at few (stretch width m out) 0 (omega arith) (part m) c))
 
-pub totals_fit : (n : ℕ) (out : List ℕ) → n ≤ 32 → Every Few out → Every (λ x. x < 2 ^ 64) (totals n out)
+pub totals_fit : (n : ℕ) (out : List ℕ) → n ≤ 32 → AllByRecursion Few out → AllByRecursion (λ x. x < 2 ^ 64) (totals n out)
 unfolding totals
 totals_fit n out few h =
     let each : (c : ℕ) → column_sum 5 n out c < 2 ^ 64 = λ c. omega (arith, column_few 5 n c most_daily out h) in

@@ -6,10 +6,10 @@ use Prim.Native.Nat.{ℕ, ◌+◌, ◌*◌, ◌^◌, ◌≤◌, ◌<◌}
 use native.Mathlib.Omega.{arith}
 use lib.Dec.{eqb}
 use lib.ListN.{length}
-use Rattle.numbers.specs.Lists.{Every}
 use Rattle.methodology.specs.declared.Refusal.{Refusal}
 use Rattle.methodology.specs.declared.Refusal.TheVariants.{OutOfTurn, BadOpening, BadLengths}
 use Rattle.std.specs.Prelude.{Option, Some, None, Ok, Err}
+use Rattle.std.specs.List.{AllByRecursion}
 use Rattle.methodology.specs.Numbers.{row_index}
 use Rattle.methodology.specs.declared.Status.{Status}
 use Rattle.methodology.specs.declared.Opening.{Opening}
@@ -73,7 +73,7 @@ unfolding line_said
 opening_line line opened = refl
 opening_line line (unopened met h) = rw h
 
-pub opening_sums : {o : Outcome} (n : ℕ) (figures : List ℕ) → OfOpening o → Every (λ x. x < 2 ^ 64) (sums_said o n figures)
+pub opening_sums : {o : Outcome} (n : ℕ) (figures : List ℕ) → OfOpening o → AllByRecursion (λ x. x < 2 ^ 64) (sums_said o n figures)
 unfolding sums_said
 opening_sums n figures opened = tt
 opening_sums n figures (unopened met h) = tt
@@ -126,14 +126,14 @@ module _ {p : Period} {d : DayInput} {before after : List ℕ} {r : Reply} (m : 
   sized_writes = m.buffer ∙ rw told.0
 
 pub day_sums : {p : Period} {d : DayInput} {before after : List ℕ} {r : Reply} → DayMeets p d before r after → (n : ℕ) → n ≤ 32
-    → Every (λ x. x < 2 ^ 64) (sums_said r.outcome n after)
+    → AllByRecursion (λ x. x < 2 ^ 64) (sums_said r.outcome n after)
 unfolding sums_said
 day_sums {p} {d} {before} {after} {r} m n few = by r.outcome refl (day_outcome m)
   where
-    by : (o : Outcome) → r.outcome ≡ o → OfDay o → Every (λ x. x < 2 ^ 64) (sums_said o n after)
+    by : (o : Outcome) → r.outcome ≡ o → OfDay o → AllByRecursion (λ x. x < 2 ^ 64) (sums_said o n after)
     by o is (sized T top) =
         let (s, positive) = sized_passes m is in
-        totals_fit n after few (subst (Every Few) (sym (sized_writes m is)) (written_few s positive))
+        totals_fit n after few (subst (AllByRecursion Few) (sym (sized_writes m is)) (written_few s positive))
     by o is (unsized met h) = tt
 
 -- ---- a closing
@@ -173,7 +173,7 @@ unfolding width_said
 closing_width n (closed days highest funds) = omega arith
 closing_width n (unclosed met h) = omega arith
 
-pub closing_sums : {o : Outcome} (n : ℕ) (figures : List ℕ) → OfClosing o → Every (λ x. x < 2 ^ 64) (sums_said o n figures)
+pub closing_sums : {o : Outcome} (n : ℕ) (figures : List ℕ) → OfClosing o → AllByRecursion (λ x. x < 2 ^ 64) (sums_said o n figures)
 unfolding sums_said
 closing_sums n figures (closed days highest funds) = tt
 closing_sums n figures (unclosed met h) = tt

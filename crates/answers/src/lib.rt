@@ -4,7 +4,7 @@
 mod totals;
 
 ghost use Rattle.std.specs.Prelude.{[], ◌∷◌, ◌≡◌, ◌*◌, ◌≤◌, ◌<◌, ◌^◌, length};
-ghost use Rattle.numbers.specs.Lists.{Every};
+ghost use Rattle.std.specs.List.{AllByRecursion};
 ghost use Rattle.methodology.specs.Text.{totals, day_lines, fund_lines};
 ghost use Rattle.report.specs.Prints.{Prints};
 ghost use Rattle.answers.specs.Said.{width_said, sums_said, line_said, said};
@@ -17,7 +17,7 @@ use report::Printer;
 // An accepted day's lines: "After a day's daily lines the report prints `total`, then the sums".
 fn print_day(printer: &mut Printer, number: u64, total: u64, max: u64, n: usize, figures: &[u64])
     requires n_in_bounds { 5 * n ≤ length figures.now }
-    requires every { Every (λ x. x < 2 ^ 64) (totals n figures.now) }
+    requires every { AllByRecursion (λ x. x < 2 ^ 64) (totals n figures.now) }
     ensures { Prints printer.old (day_lines number n (total ∷ max ∷ []) figures.now) printer.new }
 {
     let sums = day_totals(n, figures);
@@ -47,7 +47,7 @@ pub fn say(
     figures: &[u64],
 )
     requires n_in_bounds { width_said outcome * n ≤ length figures.now }
-    requires every { Every (λ x. x < 2 ^ 64) (sums_said outcome n figures.now) }
+    requires every { AllByRecursion (λ x. x < 2 ^ 64) (sums_said outcome n figures.now) }
     requires line_bound { line_said outcome line < 2 ^ 64 }
     ensures { Prints printer.old (said outcome number line n figures.now) printer.new }
 {

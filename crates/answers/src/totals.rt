@@ -1,6 +1,6 @@
 // The sums that stand under a day's lines, of the numbers that the day wrote.
 ghost use Rattle.std.specs.Prelude.{◌≡◌, ◌*◌, ◌≤◌, ◌<◌, ◌^◌, length};
-ghost use Rattle.numbers.specs.Lists.{Every};
+ghost use Rattle.std.specs.List.{AllByRecursion};
 ghost use Rattle.methodology.specs.Text.{column_sum, totals};
 
 // The sum of column c over the stretches of n members, each with five numbers. By an index, and not by `chunks_exact(5)`, whose invariant would
@@ -22,7 +22,7 @@ fn column_sum(n: usize, figures: &[u64], c: usize) -> u64
 #[tactic(auto, unfolding(methodology::specs::Text::totals))]
 pub fn day_totals(n: usize, figures: &[u64]) -> [u64; 5]
     requires n_in_bounds { 5 * n ≤ length figures.now }
-    requires every { Every (λ x. x < 2 ^ 64) (totals n figures.now) }
+    requires every { AllByRecursion (λ x. x < 2 ^ 64) (totals n figures.now) }
     ensures { result ≡ totals n figures.now }
 {
     let e = column_sum(n, figures, 0);

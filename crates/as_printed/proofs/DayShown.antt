@@ -5,7 +5,8 @@ use mathlib.Core.List.{List, [], ◌∷◌, ◌++◌, map, map-map, map-id}
 use Prim.Native.Nat.{ℕ, suc, ◌-◌, ◌*◌, ◌≤◌}
 use native.Mathlib.Omega.{arith}
 use lib.ListN.{length, get_or, take}
-use Rattle.numbers.specs.Lists.{range, Every}
+use Rattle.std.specs.List.{AllByRecursion}
+use Rattle.numbers.specs.Lists.{range}
 use Rattle.numbers.specs.Sums.{Σ}
 use Rattle.numbers.proofs.Lists.{mem_range, part_length, every_append, every_map, every_take, every_drop}
 use Rattle.numbers.proofs.Sums.{Σ-map}
@@ -26,7 +27,7 @@ Told l = same l.word (bytes "refused") ≡ true → occurs (get_or l.numbers 0 0
 abbrev of_member : (width : ℕ) (out : List ℕ) (m : ℕ) → List ℕ
 of_member width out m = m ∷ stretch width m out
 
-shows_rows : (word : List ℕ) (width n : ℕ) (out : List ℕ) → Word word → n ≤ 32 → Every Fits64 out
+shows_rows : (word : List ℕ) (width n : ℕ) (out : List ℕ) → Word word → n ≤ 32 → AllByRecursion Fits64 out
     → Shows (rows word width n out) (map (λ m. worded word (of_member width out m)) (members n))
 unfolding rows
 shows_rows word width n out w few fit =
@@ -39,7 +40,7 @@ module _ (number n T Max : ℕ) (out : List ℕ) where
   abbrev pub as_read : DayRead
   as_read = record { number = number; T = T; Max = Max; records = map (of_member 5 out) (members n); sums = totals n out }
 
-  pub day_shows : Every Fits64 (number ∷ T ∷ Max ∷ []) → Every Fits64 out → Every Fits64 (totals n out) → n ≤ 32
+  pub day_shows : AllByRecursion Fits64 (number ∷ T ∷ Max ∷ []) → AllByRecursion Fits64 out → AllByRecursion Fits64 (totals n out) → n ≤ 32
       → Shows (day_lines number n (T ∷ Max ∷ []) out) (lines_of_day as_read)
   unfolding day_lines bytes
   day_shows head fit sums few =
@@ -62,7 +63,7 @@ module _ (number n T Max : ℕ) (out : List ℕ) where
         first_is = first;
       }
 
-  pub day_told : Every Told (lines_of_day as_read)
+  pub day_told : AllByRecursion Told (lines_of_day as_read)
   unfolding bytes same
   day_told =
       let daily = every_map Told (worded (bytes "daily")) as_read.records (λ numbers i e. absurd (false≢true e)) in
@@ -74,12 +75,12 @@ module _ (number n T Max : ℕ) (out : List ℕ) where
 pub record Ends (D M : ℕ) (s : List ℕ) : Type 0 where
   pub lines : List Line
   pub shows : Shows s lines
-  pub other : Every Other lines
-  pub counts : Every (Counts D M) lines
-  pub told : Every Told lines
+  pub other : AllByRecursion Other lines
+  pub counts : AllByRecursion (Counts D M) lines
+  pub told : AllByRecursion Told lines
 
 -- a closing's D and M stand first
-pub fund_ends : {D M : ℕ} (n : ℕ) (figures out : List ℕ) → Every Fits64 figures → Every Fits64 out → n ≤ 32 → take 2 figures ≡ D ∷ M ∷ []
+pub fund_ends : {D M : ℕ} (n : ℕ) (figures out : List ℕ) → AllByRecursion Fits64 figures → AllByRecursion Fits64 out → n ≤ 32 → take 2 figures ≡ D ∷ M ∷ []
     → Ends D M (fund_lines n figures out)
 unfolding fund_lines bytes same
 fund_ends {D} {M} n figures out head fit few is =

@@ -7,7 +7,7 @@ use Prim.Native.Nat.{ℕ, ◌+◌, ◌*◌, ◌≤◌, ◌<◌, ◌^◌}
 use native.Mathlib.Nat.{add-zero}
 use native.Mathlib.Omega.{arith}
 use lib.ListN.{length, get_or, drop}
-use Rattle.numbers.specs.Lists.{Every}
+use Rattle.std.specs.List.{AllByRecursion}
 use Rattle.numbers.proofs.Lists.{every_append}
 use Rattle.methodology.specs.Account.{DayInput, accounts}
 use Rattle.methodology.specs.Day.{total}
@@ -34,11 +34,11 @@ use Rattle.as_printed.proofs.DayShown.{Told, as_read, day_shows, day_adds_up, da
 
 record ReadsBack (n before top : ℕ) (report : List ℕ) : Type 0 where
   days_add_up : DaysAddUp n before top report
-  all_decimal : Every InDecimal (split LF report)
-  all_told : Every Told (lines_of report)
+  all_decimal : AllByRecursion InDecimal (split LF report)
+  all_told : AllByRecursion Told (lines_of report)
 
 -- nothing after the last LF
-last_part : Every InDecimal (split LF [])
+last_part : AllByRecursion InDecimal (split LF [])
 unfolding split
 last_part = (record { fields_are = refl; fit = tt }, tt)
 
@@ -58,11 +58,11 @@ ends_so {before = before} {top = top} {s = s} e =
             no_day = every_append Other lines (lines_of []) e.other (refl, tt);
             all_there = rw add-zero (every_append (Counts before top) lines (lines_of []) e.counts ((λ is. absurd (false≢true is)), tt));
           };
-      all_decimal = subst (λ (l : List ℕ). Every InDecimal (split LF l)) (append-nil s) (e.shows.decimal_too [] last_part);
+      all_decimal = subst (λ (l : List ℕ). AllByRecursion InDecimal (split LF l)) (append-nil s) (e.shows.decimal_too [] last_part);
       all_told = rw whole (every_append Told lines (lines_of []) e.told ((λ is. absurd (false≢true is)), tt));
     }
 
-day_so : {n before top : ℕ} {s rest : List ℕ} {d : DayRead} → Shows s (lines_of_day d) → AddsUp n d → Every Told (lines_of_day d) → top ≤ d.Max
+day_so : {n before top : ℕ} {s rest : List ℕ} {d : DayRead} → Shows s (lines_of_day d) → AddsUp n d → AllByRecursion Told (lines_of_day d) → top ≤ d.Max
     → ReadsBack n (before + 1) d.Max rest → ReadsBack n before top (s ++ rest)
 unfolding flat_map
 day_so {before = before} {rest = rest} {d = d} shows adds told higher more =
@@ -79,7 +79,7 @@ day_so {before = before} {rest = rest} {d = d} shows adds told higher more =
             add_up = (adds, m.add_up);
             never_fall = (higher, m.never_fall);
             no_day = m.no_day;
-            all_there = subst (λ (D : ℕ). Every (Counts D (last_max d.Max m.days)) m.rest) one_more m.all_there;
+            all_there = subst (λ (D : ℕ). AllByRecursion (Counts D (last_max d.Max m.days)) m.rest) one_more m.all_there;
           };
       all_decimal = shows.decimal_too rest more.all_decimal;
       all_told = rw (shows.are rest) (every_append Told (lines_of_day d) (lines_of rest) told more.all_told);
@@ -120,7 +120,7 @@ module _ {g : Register} (k : Kept g) (d : DayInput) (passes : refusal g (day_cal
   few : n ≤ 32
   few = fit.kept.follows.good.members_few
 
-  sums_fit : Every Fits64 (totals n out)
+  sums_fit : AllByRecursion Fits64 (totals n out)
   sums_fit = totals_fit n out few (writes_few k d (5 * g.held.n) passes)
 
   day_back : Shows (sized_lines after d call) (lines_of_day (as_read d.terms.number n T Max out))
@@ -133,7 +133,7 @@ module _ {g : Register} (k : Kept g) (d : DayInput) (passes : refusal g (day_cal
   unfolding written
   day_sums = day_adds_up d.terms.number n T Max out (dailies_long after.held Max _) (first_sum_is_t after.held Max _)
 
-  no_refusal : Every Told (lines_of_day (as_read d.terms.number n T Max out))
+  no_refusal : AllByRecursion Told (lines_of_day (as_read d.terms.number n T Max out))
   no_refusal = day_told d.terms.number n T Max out
 
   summed : ReadAsSummed after d call
@@ -190,7 +190,7 @@ told (f ∷ g ∷ fs) = refl
 every_report : (text : List ℕ) → ReadsBack (members_in text) 0 0 (report_of text)
 every_report text = subst (λ (n : ℕ). ReadsBack n 0 0 (report_of text)) (told (fields (get_or (split LF text) 0 []))) (report_back (omega arith) (reports text))
 
-pub refusals_told : (text : List ℕ) → Every Told (lines_of (report_of text))
+pub refusals_told : (text : List ℕ) → AllByRecursion Told (lines_of (report_of text))
 refusals_told text = (every_report text).all_told
 
 -- ---- the claim

@@ -7,8 +7,7 @@ use Prim.Native.Nat.{ℕ, ◌<◌}
 use native.Mathlib.Omega.{arith}
 use lib.Dec.{eqb}
 use borrow.Author.Tests.{eq-eqb, ne_eqb}
-use Rattle.std.specs.List.{list_any}
-use Rattle.numbers.specs.Lists.{Every}
+use Rattle.std.specs.List.{list_any, AllByRecursion}
 use mathlib.Core.List.Memᴰ.{head as here}
 use mathlib.Core.List.Memᴰ.{tail as there}
 use Rattle.numbers.proofs.Lists.{◌∈◌, any_false, mem_every, every_weaken, every_append, every_flat_map}
@@ -20,7 +19,7 @@ use Rattle.as_printed.proofs.ReadBack.{Digit, reads_back, all_digits}
 -- ---- parts
 
 abbrev pub Without : (b : ℕ) → List ℕ → Type 0
-Without b s = Every (λ x. eqb x b ≡ false) s
+Without b s = AllByRecursion (λ x. eqb x b ≡ false) s
 
 ended : (b : ℕ) (s rest : List ℕ) → Without b s → split b (s ++ b ∷ rest) ≡ s ∷ split b rest
 unfolding split onto
@@ -66,11 +65,11 @@ line_ended w numbers rest h =
     let parted : printed w numbers ++ rest ≡ line_with w numbers ++ LF ∷ rest = rw append_assoc in
     ap (split LF) parted ∙ ended LF (line_with w numbers) rest no_lf
 
-values_back : (numbers : List ℕ) → Every Fits64 numbers → map (value_from 0) (map decimal numbers) ≡ numbers
+values_back : (numbers : List ℕ) → AllByRecursion Fits64 numbers → map (value_from 0) (map decimal numbers) ≡ numbers
 values_back [] h = refl
 values_back (x ∷ xs) h = rw (reads_back x (omega (arith, h.0)), values_back xs h.1)
 
-module _ (w numbers : List ℕ) (word : Word w) (fit : Every Fits64 numbers) where
+module _ (w numbers : List ℕ) (word : Word w) (fit : AllByRecursion Fits64 numbers) where
   is_line : line_of (line_with w numbers) ≡ worded w numbers
   is_line = rw (line_fields_lem w numbers (without tab w word.0), values_back numbers fit)
 
@@ -78,7 +77,7 @@ module _ (w numbers : List ℕ) (word : Word w) (fit : Every Fits64 numbers) whe
   is_decimal =
       record {
         fields_are = line_fields_lem w numbers (without tab w word.0) ∙ ap (λ (l : Line). l.word ∷ map decimal l.numbers) (sym is_line);
-        fit = subst (λ (l : Line). Every Fits64 l.numbers) (sym is_line) fit;
+        fit = subst (λ (l : Line). AllByRecursion Fits64 l.numbers) (sym is_line) fit;
       }
 
 -- ---- several lines
@@ -86,14 +85,14 @@ module _ (w numbers : List ℕ) (word : Word w) (fit : Every Fits64 numbers) whe
 -- the bytes s are these lines, whatever follows, and all of them are decimal
 pub record Shows (s : List ℕ) (lines : List Line) : Type 0 where
   pub are : (rest : List ℕ) → lines_of (s ++ rest) ≡ lines ++ lines_of rest
-  pub decimal_too : (rest : List ℕ) → Every InDecimal (split LF rest) → Every InDecimal (split LF (s ++ rest))
+  pub decimal_too : (rest : List ℕ) → AllByRecursion InDecimal (split LF rest) → AllByRecursion InDecimal (split LF (s ++ rest))
 
-pub shows_line : (w numbers : List ℕ) → Word w → Every Fits64 numbers → Shows (printed w numbers) (worded w numbers ∷ [])
+pub shows_line : (w numbers : List ℕ) → Word w → AllByRecursion Fits64 numbers → Shows (printed w numbers) (worded w numbers ∷ [])
 shows_line w numbers word fit =
     let no_lf = without LF w word.1 in
     record {
       are = λ rest. rw (line_ended w numbers rest no_lf, is_line w numbers word fit);
-      decimal_too = λ rest h. subst (Every InDecimal) (sym (line_ended w numbers rest no_lf)) (is_decimal w numbers word fit, h);
+      decimal_too = λ rest h. subst (AllByRecursion InDecimal) (sym (line_ended w numbers rest no_lf)) (is_decimal w numbers word fit, h);
     }
 
 pub shows_then : {s t : List ℕ} {ls ms : List Line} → Shows s ls → Shows t ms → Shows (s ++ t) (ls ++ ms)
@@ -107,7 +106,7 @@ shows_then {s} {t} {ls} {ms} a b =
     }
 
 -- a line for each x
-pub shows_each : (w : List ℕ) (numbers : ℕ → List ℕ) (xs : List ℕ) → Word w → ((x : ℕ) → x ∈ xs → Every Fits64 (numbers x))
+pub shows_each : (w : List ℕ) (numbers : ℕ → List ℕ) (xs : List ℕ) → Word w → ((x : ℕ) → x ∈ xs → AllByRecursion Fits64 (numbers x))
     → Shows (flat_map (λ x. printed w (numbers x)) xs) (map (λ x. worded w (numbers x)) xs)
 unfolding flat_map
 shows_each w numbers [] word fit = record { are = λ rest. refl; decimal_too = λ rest h. h }

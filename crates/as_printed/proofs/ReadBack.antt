@@ -9,8 +9,7 @@ use native.Mathlib.Omega.{arith}
 use lib.Dec.{ltb, eqb}
 use lib.ListN.{length, get_or, length-append, get_or-append}
 use borrow.Author.Tests.{lt-ltb, le-ltb, ne_eqb, ltb-true, ltb-false}
-use Rattle.std.specs.List.{list_any}
-use Rattle.numbers.specs.Lists.{Every}
+use Rattle.std.specs.List.{list_any, AllByRecursion}
 use Rattle.numbers.proofs.Lists.{none_any, every_mem, every_append}
 use Rattle.methodology.specs.Text.{is_digit, value_from, number_of, digits, decimal}
 use Rattle.methodology.proofs.Passed.{by_test}
@@ -43,11 +42,11 @@ reads_back x h = value_back 19 x h
 abbrev pub Digit : ℕ → Type 0
 Digit b = (48 ≤ b) × (b ≤ 57)
 
-pub all_digits : (k n : ℕ) → Every Digit (digits k n)
+pub all_digits : (k n : ℕ) → AllByRecursion Digit (digits k n)
 unfolding digits
 all_digits zero n = ((omega arith, omega arith), tt)
 all_digits (suc k) n =
-    every_append Digit (front k n) ((48 + n % 10) ∷ []) (by_test (Every Digit) (ltb n 10) [] (digits k (n / 10)) (λ e. tt) (λ e. all_digits k (n / 10)))
+    every_append Digit (front k n) ((48 + n % 10) ∷ []) (by_test (AllByRecursion Digit) (ltb n 10) [] (digits k (n / 10)) (λ e. tt) (λ e. all_digits k (n / 10)))
     ((omega arith, omega arith), tt)
 
 some_digits : (k n : ℕ) → 1 ≤ length (digits k n)

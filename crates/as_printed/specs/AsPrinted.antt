@@ -3,8 +3,8 @@
 use Rattle.std.specs.Prelude.{◌≡◌, true, false, not, ◌&&◌, ◌||◌, ℕ, ◌+◌, ◌*◌, ◌^◌, ◌≤◌, ◌<◌, eqb, ltb, length, get_or, take, drop}
 use mathlib.Core.List.{List, [], ◌∷◌, ◌++◌, map, flat_map}
 use Rattle.std.specs.Prelude.{Some}
-use Rattle.std.specs.List.{fold, list_any}
-use Rattle.numbers.specs.Lists.{range, Every}
+use Rattle.std.specs.List.{fold, list_any, AllByRecursion}
+use Rattle.numbers.specs.Lists.{range}
 use Rattle.numbers.specs.Sums.{Σ}
 use Rattle.methodology.specs.declared.Opening.{Opening}
 use Rattle.methodology.specs.Account.{DayInput, Account, members}
@@ -35,7 +35,7 @@ lines_of report = map line_of (split LF report)
 -- a line that has nothing but its word and its numbers in decimal, all below 2^64
 pub record InDecimal (line : List ℕ) : Type 0 where
   pub fields_are : fields line ≡ (line_of line).word ∷ map decimal (line_of line).numbers
-  pub fit : Every Fits64 (line_of line).numbers
+  pub fit : AllByRecursion Fits64 (line_of line).numbers
 
 -- ---- a day
 
@@ -57,7 +57,7 @@ lines_of_day d =
 pub record AddsUp (n : ℕ) (d : DayRead) : Type 0 where
   -- a record for each member: its number, and five more
   pub of_members : map (λ numbers. get_or numbers 0 0) d.records ≡ members n
-  pub wide : Every (λ numbers. length numbers ≡ 6) d.records
+  pub wide : AllByRecursion (λ numbers. length numbers ≡ 6) d.records
   -- "Each sum equals that of the day's records as printed"
   pub sums_are : d.sums ≡ map (λ c. Σ d.records (λ numbers. get_or numbers c 0)) (range 1 5)
   -- "and the first equals T"
@@ -93,10 +93,10 @@ pub record DaysAddUp (n before top : ℕ) (report : List ℕ) : Type 0 where
   pub days : List DayRead
   pub rest : List Line
   pub whole : lines_of report ≡ flat_map lines_of_day days ++ rest
-  pub add_up : Every (AddsUp n) days
+  pub add_up : AllByRecursion (AddsUp n) days
   pub never_fall : NeverFall top days
-  pub no_day : Every Other rest
-  pub all_there : Every (Counts (before + length days) (last_max top days)) rest
+  pub no_day : AllByRecursion Other rest
+  pub all_there : AllByRecursion (Counts (before + length days) (last_max top days)) rest
 
 -- ---- what was summed is what is read
 
@@ -106,13 +106,13 @@ register_fed = fold step
 
 -- what an accepted call returned and wrote is below 2^64, where g is the register as the call leaves it
 pub record AcceptedFits (g : Register) (call : Call) : Type 0 where
-  pub returned_fits : Every Fits64 (returned g call)
-  pub written_fits : Every Fits64 (written g call)
+  pub returned_fits : AllByRecursion Fits64 (returned g call)
+  pub written_fits : AllByRecursion Fits64 (written g call)
 
 -- An accepted day: the sums of what it wrote are below 2^64 too, and its lines in the report are read as these very numbers, each member's
 -- after its own.
 pub record ReadAsSummed (g : Register) (d : DayInput) (call : Call) : Type 0 where
-  pub sums_fit : Every Fits64 (totals g.held.n (written g call))
+  pub sums_fit : AllByRecursion Fits64 (totals g.held.n (written g call))
   pub reads :
       lines_of (day_lines d.terms.number g.held.n (returned g call) (written g call))
       ≡ lines_of_day
@@ -161,6 +161,6 @@ pub record AsPrinted : Type 0 where
       let call = Call.day d (5 * g.held.n) in
       refusal g call ≡ clear → ReadAsSummed (step g call) d call
   -- every line of every report
-  pub all_decimal : (text : List ℕ) → Every InDecimal (split LF (report_of text))
+  pub all_decimal : (text : List ℕ) → AllByRecursion InDecimal (split LF (report_of text))
   -- "Each sum equals that of the day's records as printed, and the first equals T." The days' Max EULs never fall, and M is the last (Change 3).
   pub days_add_up : (text : List ℕ) → DaysAddUp (members_in text) 0 0 (report_of text)

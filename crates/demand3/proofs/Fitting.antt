@@ -7,13 +7,14 @@ use Prim.Native.Nat.{ℕ, ◌+◌, ◌*◌, ◌≤◌, ◌<◌}
 use native.Mathlib.Omega.{arith}
 use lib.ListN.{length, get_or, replicate}
 use lib.Seq.{length-take-le}
-use Rattle.numbers.specs.Lists.{range, Every}
+use Rattle.numbers.specs.Lists.{range}
 use Rattle.numbers.specs.Sums.{Σ}
 use Rattle.numbers.proofs.Lists.{◌∈◌, by_index, at_any, replicate_at, table_length, mem_every, every_map, every_flat_map, every_weaken}
 use Rattle.numbers.proofs.Rows.{rows_length}
 use Rattle.numbers.proofs.Sums.{Σ-bound}
 use Rattle.methodology.specs.declared.Refusal.{Refusal}
 use Rattle.std.specs.Prelude.{Option, Some, None, Result, Ok, Err}
+use Rattle.std.specs.List.{AllByRecursion}
 use Rattle.methodology.specs.Numbers.{row_number, row_index}
 use Rattle.methodology.specs.declared.Refusal.TheVariants.{BadOpening, OutOfTurn}
 use Rattle.methodology.specs.declared.Opening.{Opening}
@@ -58,22 +59,22 @@ closing_row_few p room = closing_few (status_of p) (held_by p) room
 
 -- ---- lists
 
-indexed : (P : ℕ → Type 0) (xs : List ℕ) → ((i : ℕ) → P (get_or xs i 0)) → Every P xs
+indexed : (P : ℕ → Type 0) (xs : List ℕ) → ((i : ℕ) → P (get_or xs i 0)) → AllByRecursion P xs
 indexed P xs h = mem_every P xs (by_index P xs 0 (λ i l. h i))
 
 -- ---- a day that is accepted
 
 dailies_fit : (p : Period) (d : DayInput) (room : ℕ) → Admits p d room × (0 < total (held_by p) (accounts_brought p d))
-    → Every Fits64 (dailies (held_by p) (reported_by p d) (accounts_brought p d))
+    → AllByRecursion Fits64 (dailies (held_by p) (reported_by p d) (accounts_brought p d))
 dailies_fit p d room (s, t) = every_weaken Few Fits64 (λ x few. omega arith) (dailies (held_by p) (reported_by p d) (accounts_brought p d)) (written_few s t)
 
 day_figures_fit : (p : Period) (d : DayInput) (room : ℕ) → Admits p d room × (0 < total (held_by p) (accounts_brought p d))
-    → Every Fits64 (total (held_by p) (accounts_brought p d) ∷ reported_by p d ∷ [])
+    → AllByRecursion Fits64 (total (held_by p) (accounts_brought p d) ∷ reported_by p d ∷ [])
 day_figures_fit p d room (s, t) = (omega (arith, total_few s), (omega (arith, reported_few s), tt))
 
 -- ---- a closing that is accepted
 
-three_fits : (r : ℕ) → r ≤ 2 * greatest_total → Every Fits64 (three r)
+three_fits : (r : ℕ) → r ≤ 2 * greatest_total → AllByRecursion Fits64 (three r)
 unfolding three funded unfunded
 three_fits r h = (omega arith, (omega arith, (omega arith, tt)))
 
@@ -94,12 +95,12 @@ module _ {p : Period} {room : ℕ} (c : Ready p 3 room) (full : length p.accrued
   funds_fit =
       omega (arith, few, sums_long, Σ-bound (sums_held p) (λ s. funded (charge_by p s)) (3 * greatest_total) (λ s i. omega (arith, charge_few i)))
 
-  closing_figures_fit : Every Fits64 (p.accrued.days ∷ p.accrued.highest ∷ Σ (sums_held p) (λ s. funded (charge_by p s)) ∷ [])
+  closing_figures_fit : AllByRecursion Fits64 (p.accrued.days ∷ p.accrued.highest ∷ Σ (sums_held p) (λ s. funded (charge_by p s)) ∷ [])
   closing_figures_fit =
       let r = c.in_range_lem in
       (omega (arith, r.counted, r.month), (omega (arith, r.bounded), (funds_fit, tt)))
 
-  closing_fits : Every Fits64 (flat_map (λ s. three (charge_by p s)) (sums_held p))
+  closing_fits : AllByRecursion Fits64 (flat_map (λ s. three (charge_by p s)) (sums_held p))
   closing_fits = every_flat_map Fits64 _ (sums_held p) (λ s i. three_fits _ (charge_few i))
 
   closing_long : length (flat_map (λ s. three (charge_by p s)) (sums_held p)) ≡ room
@@ -108,7 +109,7 @@ module _ {p : Period} {room : ℕ} (c : Ready p 3 room) (full : length p.accrued
 
 -- ---- the period
 
-pub zeros_fit : (count : ℕ) → Every Fits64 (replicate count 0)
+pub zeros_fit : (count : ℕ) → AllByRecursion Fits64 (replicate count 0)
 zeros_fit count = indexed Fits64 (replicate count 0) (λ i. omega (arith, replicate_at {A = ℕ} count i 0))
 
 none_accrued : NarrowAccrued fresh_period.accrued
@@ -152,11 +153,11 @@ narrow_fresh = record { held = narrow_places no_opening (omega arith) (omega ari
 
 -- ---- a call, by what the refusal table says
 
-refused_fits : (number : ℕ) (index : Option ℕ) → number ≤ 9 → IndexFew index → Every Fits64 (numbers_in (refused_with number index))
+refused_fits : (number : ℕ) (index : Option ℕ) → number ≤ 9 → IndexFew index → AllByRecursion Fits64 (numbers_in (refused_with number index))
 refused_fits number None h few = (omega arith, tt)
 refused_fits number (Some index) h few = (omega arith, (omega arith, tt))
 
-answer_fits : (x : Verdict) (figures : List ℕ) → RowFew x → (x ≡ clear → Every Fits64 figures) → Every Fits64 (numbers_in (answer_by x figures))
+answer_fits : (x : Verdict) (figures : List ℕ) → RowFew x → (x ≡ clear → AllByRecursion Fits64 figures) → AllByRecursion Fits64 (numbers_in (answer_by x figures))
 answer_fits (Ok _) figures h f = f refl
 answer_fits (Err met) figures h f = refused_fits (row_number met) (row_index met) (at_most_9 _ (row_occurs met)) h
 
@@ -175,7 +176,7 @@ fits {p} q (Asked.day d out) r after m =
     record {
       answer = rw m.answer (answer_fits x _ (day_row_few p d (length out)) (λ e. day_figures_fit p d (length out) (pass e)));
       period = subst Narrow (sym m.period) (either Narrow x _ p (λ e. narrow_sized p d (sized_in_range p d (pass e).0 (pass e).1) q) q);
-      buffer = λ b. subst (Every Fits64) (sym m.buffer) (either (Every Fits64) x _ out (λ e. dailies_fit p d (length out) (pass e)) b);
+      buffer = λ b. subst (AllByRecursion Fits64) (sym m.buffer) (either (AllByRecursion Fits64) x _ out (λ e. dailies_fit p d (length out) (pass e)) b);
       long =
           ap length m.buffer
           ∙ either (λ (l : List ℕ). length l ≡ length out) x _ out (λ e. dailies_long (held_by p) _ (accounts_brought p d) ∙ sym (pass e).0.room_long) refl;
@@ -186,7 +187,7 @@ fits {p} q (Asked.closing out) r after m =
     record {
       answer = rw m.answer (answer_fits x _ (closing_row_few p (length out)) (λ e. closing_figures_fit (pass e) q.accrued.sums_long));
       period = subst Narrow (sym m.period) (either Narrow x _ p (λ e. narrow_closed p q) q);
-      buffer = λ b. subst (Every Fits64) (sym m.buffer) (either (Every Fits64) x _ out (λ e. closing_fits (pass e) q.accrued.sums_long) b);
+      buffer = λ b. subst (AllByRecursion Fits64) (sym m.buffer) (either (AllByRecursion Fits64) x _ out (λ e. closing_fits (pass e) q.accrued.sums_long) b);
       long = ap length m.buffer ∙ either (λ (l : List ℕ). length l ≡ length out) x _ out (λ e. closing_long (pass e) q.accrued.sums_long) refl;
     }
 

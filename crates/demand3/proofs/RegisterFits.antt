@@ -2,7 +2,7 @@
 use mathlib.Core.Path.{◌≡◌, sym, ap, subst, ◌∙◌}
 use Prim.Native.Nat.{ℕ}
 use lib.ListN.{replicate, length-replicate}
-use Rattle.numbers.specs.Lists.{Every}
+use Rattle.std.specs.List.{AllByRecursion}
 use Rattle.methodology.specs.Account.{DayInput}
 use Rattle.methodology.specs.Refusals.{clear}
 use Rattle.methodology.specs.Register.{Call, Register, start, refusal, step, returned, written, answer, buffer}
@@ -29,10 +29,10 @@ kept_first = record { period = _; follows = starts; narrow = narrow_fresh }
 -- after a call it is still one, and the numbers of an accepted call fit
 pub record CallFits (g : Register) (c : Call) : Type 0 where
   pub kept : Kept (step g c)
-  pub returned_fits : refusal g c ≡ clear → Every Fits64 (returned (step g c) c)
-  pub written_fits : refusal g c ≡ clear → Every Fits64 (written (step g c) c)
+  pub returned_fits : refusal g c ≡ clear → AllByRecursion Fits64 (returned (step g c) c)
+  pub written_fits : refusal g c ≡ clear → AllByRecursion Fits64 (written (step g c) c)
 
-as_asked : {g : Register} → Kept g → (a : Asked) → Every Fits64 (lent a) → CallFits g (call_of a)
+as_asked : {g : Register} → Kept g → (a : Asked) → AllByRecursion Fits64 (lent a) → CallFits g (call_of a)
 unfolding answer buffer
 as_asked k a free =
     let (r, after, m) = makes k.period a in
@@ -54,8 +54,8 @@ call_fits {g} k (Call.closing room) =
 
 -- a day's numbers are so small that sums of them fit too
 pub writes_few : {g : Register} → Kept g → (d : DayInput) (room : ℕ) → refusal g (Call.day d room) ≡ clear
-    → Every Few (written (step g (Call.day d room)) (Call.day d room))
+    → AllByRecursion Few (written (step g (Call.day d room)) (Call.day d room))
 writes_few {g} k d room passes =
     let call = Call.day d room in
     let (s, positive) = passes_all k.period d room (day_row_lem k.follows d room ∙ passes) in
-    subst (Every Few) (day_writes k.follows d room ∙ ap (λ (g : Register). written g call) (sym (step_clear g call passes))) (written_few s positive)
+    subst (AllByRecursion Few) (day_writes k.follows d room ∙ ap (λ (g : Register). written g call) (sym (step_clear g call passes))) (written_few s positive)

@@ -1,7 +1,6 @@
 -- Demand 3, in its own order: "The fund covers 110% of the worst loss and hardly more." proofs/Demand3.antt says it of the program.
 use Rattle.std.specs.Prelude.{◌≡◌, List, [], ◌∷◌, map, ℕ, ◌+◌, ◌-◌, ◌*◌, ◌^◌, ◌≤◌, ◌<◌, length, get_or}
-use Rattle.std.specs.List.{fold}
-use Rattle.numbers.specs.Lists.{Every}
+use Rattle.std.specs.List.{fold, AllByRecursion}
 use Rattle.numbers.specs.Sums.{Σ}
 use Rattle.numbers.specs.Fractions.{Fraction, ◌over◌, whole, Proper, ◌⊕◌, ◌⊗◌, ◌≼◌, ◌≺◌}
 use Rattle.methodology.specs.declared.Opening.{Opening}
@@ -102,14 +101,14 @@ numbers_in (refused_at number index) = number ∷ index ∷ []
 pub record NarrowOpening (o : Opening) : Type 0 where
   pub n : Fits64 o.n
   pub k : Fits64 o.k
-  pub groups : Every Fits64 o.groups
+  pub groups : AllByRecursion Fits64 o.groups
   pub groups_long : length o.groups ≡ 32
 
 pub record NarrowAccrued (a : Accrued) : Type 0 where
   pub last : Fits64 a.last
   pub days : Fits64 a.days
   pub highest : Fits64 a.highest
-  pub sums : Every Fits64 a.sums
+  pub sums : AllByRecursion Fits64 a.sums
   pub sums_long : length a.sums ≡ 32
 
 pub record Narrow (p : Period) : Type 0 where
@@ -119,9 +118,9 @@ pub record Narrow (p : Period) : Type 0 where
 -- A call that the program can make: every number that it answers, or leaves in the period or the buffer, fits 64 bits, where those do that
 -- the buffer had, and the buffer is as long as before.
 pub record Fits (c : Made) : Type 0 where
-  pub answer : Every Fits64 (numbers_in (answer_of c.reply.outcome))
+  pub answer : AllByRecursion Fits64 (numbers_in (answer_of c.reply.outcome))
   pub period : Narrow c.reply.period
-  pub buffer : Every Fits64 (lent c.asked) → Every Fits64 c.after
+  pub buffer : AllByRecursion Fits64 (lent c.asked) → AllByRecursion Fits64 c.after
   pub long : length c.after ≡ length (lent c.asked)
 
 -- calls with these arguments that can be made, from period p on
@@ -129,4 +128,4 @@ pub record CanBeMade (p : Period) (arguments : List Asked) : Type 0 where
   pub calls : List Made
   pub same : map (λ c. c.asked) calls ≡ arguments
   pub made : MadeOn p calls
-  pub fits : Every Fits calls
+  pub fits : AllByRecursion Fits calls

@@ -5,7 +5,7 @@ use mathlib.Core.List.{List, map, flat_map}
 use Prim.Native.Nat.{ℕ, ◌+◌, ◌*◌, ◌<◌, ◌≤◌}
 use native.Mathlib.Omega.{arith}
 use lib.ListN.{length, take}
-use Rattle.numbers.specs.Lists.{Every}
+use Rattle.std.specs.List.{AllByRecursion}
 use Rattle.numbers.specs.Rounding.{round_div}
 use Rattle.numbers.proofs.Lists.{◌∈◌, range_length, range_at, every_flat_map}
 use Rattle.numbers.proofs.Rows.{flat_map_map, rows_length, rows_at}
@@ -33,7 +33,7 @@ most_daily = 220 * greatest_total
 abbrev pub Few : ℕ → Type 0
 Few x = x ≤ most_daily
 
-five_few : (e top t : ℕ) → Loss e t → top ≤ greatest_total → Every Few (five e top t)
+five_few : (e top t : ℕ) → Loss e t → top ≤ greatest_total → AllByRecursion Few (five e top t)
 unfolding five share value reserve estimate
 five_few e top t l high =
     let cents : (f : ℕ) → round_div (f * e * top) t ≤ f * top = λ f. cents_le f e top t l.positive l.part in
@@ -41,7 +41,7 @@ five_few e top t l high =
     (omega (arith, l.part, l.bounded), (omega arith, (omega (arith, cents 100), (omega (arith, cents 110), (omega (arith, cents 220), tt)))))
 
 module _ (o : Opening) (Max : ℕ) (accts : List Account) where
-  pub dailies_few : ((m : ℕ) → m ∈ members o.n → Loss (loss o.k accts m) (total o accts)) → Max ≤ greatest_total → Every Few (dailies o Max accts)
+  pub dailies_few : ((m : ℕ) → m ∈ members o.n → Loss (loss o.k accts m) (total o accts)) → Max ≤ greatest_total → AllByRecursion Few (dailies o Max accts)
   unfolding dailies
   dailies_few l high = every_flat_map Few _ (members o.n) (λ m i. five_few _ _ _ (l m i) high)
 

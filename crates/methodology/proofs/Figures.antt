@@ -8,8 +8,9 @@ use native.Mathlib.Omega.{arith}
 use lib.Dec.{ltb}
 use lib.IntN.{ℤ, pos}
 use lib.ListN.{length, get_or, replicate}
+use Rattle.std.specs.List.{AllByRecursion}
 use Rattle.numbers.specs.Fractions.{Fraction, ◌over◌, Proper, ◌≼◌, ◌≺◌}
-use Rattle.numbers.specs.Lists.{range, Every, first_where}
+use Rattle.numbers.specs.Lists.{range, first_where}
 use Rattle.methodology.specs.declared.Opening.{Opening}
 use Rattle.methodology.specs.Account.{DayInput, members, accounts, nobody, heading_at}
 use Rattle.methodology.specs.Member.{member_under, member_own}
@@ -221,9 +222,9 @@ pub orders :
     × ¬ (2 over 1 ≺ 6 over 3)
     × Proper (0 over 1)
     × ¬ Proper (1 over 0)
-    × Every (λ x. x < 3) (1 ∷ 2 ∷ [])
-    × ¬ Every (λ x. x < 3) (3 ∷ 2 ∷ [])
-    × ¬ Every (λ x. x < 3) (1 ∷ 3 ∷ [])
+    × AllByRecursion (λ x. x < 3) (1 ∷ 2 ∷ [])
+    × ¬ AllByRecursion (λ x. x < 3) (3 ∷ 2 ∷ [])
+    × ¬ AllByRecursion (λ x. x < 3) (1 ∷ 3 ∷ [])
 orders = (
   omega arith,
   (λ h. omega (arith, h)),

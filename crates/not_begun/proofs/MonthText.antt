@@ -4,13 +4,14 @@ use mathlib.Core.Path.{◌≡◌, refl, sym, ap, ◌∙◌}
 use mathlib.Core.Bool.{true, false, cond}
 use mathlib.Core.List.{List, [], ◌∷◌, ◌++◌, flat_map, append_assoc, append-nil}
 use Rattle.std.specs.Prelude.{Some}
+use Rattle.std.specs.List.{AllByRecursion}
 use Prim.Native.Nat.{ℕ, zero, suc, ◌+◌, ◌-◌, ◌^◌, ◌≤◌, ◌<◌}
 use native.Mathlib.Omega.{arith}
 use lib.Dec.{eqb, ltb}
 use lib.ListN.{length, get_or, take, length-append}
 use lib.Seq.{take-suc, take_all, length-take-le}
 use borrow.Author.Tests.{eq-eqb, ne_eqb, le-ltb}
-use Rattle.numbers.specs.Lists.{range, Every}
+use Rattle.numbers.specs.Lists.{range}
 use Rattle.numbers.proofs.Lists.{none_any, every_mem, every_append, every_flat_map, every_weaken}
 use Rattle.methodology.specs.declared.Opening.{Opening}
 use Rattle.methodology.specs.Account.{with_groups, members}
@@ -35,13 +36,13 @@ Ascii x = ltb 127 x ≡ false
 record Begins (w : List ℕ) : Type 0 where
   word : Word w
   short : length w ≤ 10
-  ascii : Every Ascii w
+  ascii : AllByRecursion Ascii w
   alike : same w w ≡ true
 
 good_bytes : (w numbers : List ℕ) → Begins w → length numbers ≤ 2 → bad_bytes (line_with w numbers) ≡ false
 unfolding bad_bytes printed
 good_bytes w numbers b few =
-    let digits : (x : ℕ) → Every Ascii (decimal x) = λ x. every_weaken Digit Ascii (λ y d. le-ltb 127 y (omega (arith, d.1))) (decimal x) (all_digits 19 x) in
+    let digits : (x : ℕ) → AllByRecursion Ascii (decimal x) = λ x. every_weaken Digit Ascii (λ y d. le-ltb 127 y (omega (arith, d.1))) (decimal x) (all_digits 19 x) in
     let ascii = every_append Ascii w (tabbed numbers) b.ascii (every_flat_map Ascii (λ x. tab ∷ decimal x) numbers (λ x i. (refl, digits x))) in
     let long : length (line_with w numbers) ≤ 512 = omega (arith, printed_short w numbers, length-append (line_with w numbers) (LF ∷ []), b.short) in
     rw (le-ltb 512 (length (line_with w numbers)) long, none_any (ltb 127) (line_with w numbers) (every_mem Ascii (line_with w numbers) ascii))

@@ -4,9 +4,9 @@ use mathlib.Core.Path.{◌≡◌, refl, sym, ap, subst, ◌∙◌}
 use mathlib.Core.Bool.{true, false, true≢false}
 use mathlib.Core.List.{List, [], ◌∷◌, map}
 use Prim.Native.Nat.{ℕ}
-use Rattle.numbers.specs.Lists.{Every}
 use Rattle.numbers.proofs.Lists.{every_weaken}
 use Rattle.std.specs.Prelude.{Option, Some, None, Ok, Err}
+use Rattle.std.specs.List.{AllByRecursion}
 use Rattle.methodology.specs.Numbers.{row_number, row_index}
 use Rattle.methodology.specs.Refusals.{Verdict}
 use Rattle.methodology.specs.Register.{Register, start, refusal, step, refused_with, answer_by, answer}
@@ -43,7 +43,7 @@ module _ (number : ℕ) (gone : occurs number ≡ false) where
   not_answered g c agreed =
       subst (λ a. ¬ IsRefusal number a) (sym agreed.answer) (not_refused (refusal g (call_of c.asked)) _)
 
-  none_answered : (g : Register) (cs : List Made) → Holds g cs → Every (λ c. ¬ AnsweredBy number c) cs
+  none_answered : (g : Register) (cs : List Made) → Holds g cs → AllByRecursion (λ c. ¬ AnsweredBy number c) cs
   none_answered g [] h = tt
   none_answered g (c ∷ cs) (agreed, _, h) = (not_answered g c agreed, none_answered (step g (call_of c.asked)) cs h)
 

@@ -1,12 +1,12 @@
 -- Document 02, Change 2: "Number 8 no longer occurs". `NeverOccurs` is the claim, of any number.
 use Rattle.std.specs.Prelude.{◌≡◌, true, List, map, ℕ, Ok, Err, get_or}
+use Rattle.std.specs.List.{AllByRecursion}
 use seplogic.Ra.Ura.{Ura}
 use base.Logic.{SProp}
 use prog.Memory.{Memory}
 use prog.Routine.{Routine}
 use types.Logic.{Logic}
 use contract.Monad.{Fun}
-use Rattle.numbers.specs.Lists.{Every}
 use Rattle.methodology.specs.Numbers.{row_number}
 use Rattle.methodology.specs.Refusals.{Verdict}
 use Rattle.methodology.specs.Register.{Call, Register, refusal, Answer, accepted, refused, refused_at}
@@ -39,10 +39,10 @@ pub record NeverOccurs (number : ℕ) : Type 2 where
   -- the refusal table, for every register and every call
   pub no_refusal : (g : Register) (c : Call) → ¬ IsRow number (refusal g c)
   -- so the calls, in every list of them
-  pub no_answer : (cs : List Made) → MadeOn fresh_period cs → Every (λ c. ¬ AnsweredBy number c) cs
+  pub no_answer : (cs : List Made) → MadeOn fresh_period cs → AllByRecursion (λ c. ¬ AnsweredBy number c) cs
   -- and of the compiled functions, as demand 3 has them
   pub no_compiled_answer :
       {M : Type 1} {𝓤 : Ura M} (𝓛 : Logic 𝓤) (mem : Memory → SProp 𝓤) (run : Routine → Fun 𝓤)
-      (cs : List Called) → FromFresh 𝓛 mem run cs → Every (λ c. ¬ AnsweredBy number c) (map made_of cs)
+      (cs : List Called) → FromFresh 𝓛 mem run cs → AllByRecursion (λ c. ¬ AnsweredBy number c) (map made_of cs)
   -- and the report of every text
-  pub no_line : (text : List ℕ) → Every (λ l. ¬ Tells number l) (lines_of (report_of text))
+  pub no_line : (text : List ℕ) → AllByRecursion (λ l. ¬ Tells number l) (lines_of (report_of text))

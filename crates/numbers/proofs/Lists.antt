@@ -16,8 +16,8 @@ use lib.ListN.{length, get_or, take, drop, set, replicate, length-map, length-dr
 use lib.Seq.{drop-cons, drop-drop, take-nil, drop-nil, take-take, get_or-take, get_or-drop, get_or-set_same, get_or-set_other, length-take-le, ext_get_or}
 use borrow.Author.Count.{below_none, below_more}
 use borrow.Author.Tests.{eqb-true, eqb-false}
-use Rattle.std.specs.List.{filter, list_any}
-use Rattle.numbers.specs.Lists.{range, first_where, Every}
+use Rattle.std.specs.List.{filter, list_any, AllByRecursion}
+use Rattle.numbers.specs.Lists.{range, first_where}
 use Rattle.numbers.proofs.Tests.{neither}
 
 infix 50 ◌∈◌
@@ -309,42 +309,42 @@ module _ {A : Type 0} (p : A → Bool) where
   first_end xs i h e = rw (drop_of_length-le xs h, add-zero) at e
 
 -- what every element has, a member has; and back
-pub every_mem : {A : Type 0} (P : A → Type 0) (xs : List A) → Every P xs → (x : A) → x ∈ xs → P x
+pub every_mem : {A : Type 0} (P : A → Type 0) (xs : List A) → AllByRecursion P xs → (x : A) → x ∈ xs → P x
 every_mem P [] h x i = elim i [ ]
 every_mem P (y ∷ ys) h x (here e) = subst P (sym e) h.0
 every_mem P (y ∷ ys) h x (there i) = every_mem P ys h.1 x i
 
-pub mem_every : {A : Type 0} (P : A → Type 0) (xs : List A) → ((x : A) → x ∈ xs → P x) → Every P xs
+pub mem_every : {A : Type 0} (P : A → Type 0) (xs : List A) → ((x : A) → x ∈ xs → P x) → AllByRecursion P xs
 mem_every P [] f = tt
 mem_every P (x ∷ xs) f = (f x (here refl), mem_every P xs (λ y i. f y (there i)))
 
 -- an element at an index, the first ones, and those after them
-pub every_at : {A : Type 0} (P : A → Type 0) (xs : List A) (d : A) → P d → Every P xs → (i : ℕ) → P (get_or xs i d)
+pub every_at : {A : Type 0} (P : A → Type 0) (xs : List A) (d : A) → P d → AllByRecursion P xs → (i : ℕ) → P (get_or xs i d)
 every_at P xs d p h = at_any P xs d p (λ i l. every_mem P xs h (get_or xs i d) (mem_at xs d l))
 
-pub every_take : {A : Type 0} (P : A → Type 0) (n : ℕ) (xs : List A) → Every P xs → Every P (take n xs)
+pub every_take : {A : Type 0} (P : A → Type 0) (n : ℕ) (xs : List A) → AllByRecursion P xs → AllByRecursion P (take n xs)
 every_take P zero xs h = tt
 every_take P (suc n) [] h = tt
 every_take P (suc n) (x ∷ xs) h = (h.0, every_take P n xs h.1)
 
-pub every_drop : {A : Type 0} (P : A → Type 0) (n : ℕ) (xs : List A) → Every P xs → Every P (drop n xs)
+pub every_drop : {A : Type 0} (P : A → Type 0) (n : ℕ) (xs : List A) → AllByRecursion P xs → AllByRecursion P (drop n xs)
 every_drop P zero xs h = h
 every_drop P (suc n) [] h = tt
 every_drop P (suc n) (x ∷ xs) h = every_drop P n xs h.1
 
-pub every_map : {A B : Type 0} (P : B → Type 0) (f : A → B) (xs : List A) → ((x : A) → x ∈ xs → P (f x)) → Every P (map f xs)
+pub every_map : {A B : Type 0} (P : B → Type 0) (f : A → B) (xs : List A) → ((x : A) → x ∈ xs → P (f x)) → AllByRecursion P (map f xs)
 every_map P f [] h = tt
 every_map P f (x ∷ xs) h = (h x (here refl), every_map P f xs (λ y i. h y (there i)))
 
-pub every_weaken : {A : Type 0} (P Q : A → Type 0) → ((x : A) → P x → Q x) → (xs : List A) → Every P xs → Every Q xs
+pub every_weaken : {A : Type 0} (P Q : A → Type 0) → ((x : A) → P x → Q x) → (xs : List A) → AllByRecursion P xs → AllByRecursion Q xs
 every_weaken P Q f [] h = tt
 every_weaken P Q f (x ∷ xs) h = (f x h.0, every_weaken P Q f xs h.1)
 
-pub every_append : {A : Type 0} (P : A → Type 0) (xs ys : List A) → Every P xs → Every P ys → Every P (xs ++ ys)
+pub every_append : {A : Type 0} (P : A → Type 0) (xs ys : List A) → AllByRecursion P xs → AllByRecursion P ys → AllByRecursion P (xs ++ ys)
 every_append P [] ys h k = k
 every_append P (x ∷ xs) ys h k = (h.0, every_append P xs ys h.1 k)
 
-pub every_flat_map : {A B : Type 0} (P : B → Type 0) (f : A → List B) (xs : List A) → ((x : A) → x ∈ xs → Every P (f x)) → Every P (flat_map f xs)
+pub every_flat_map : {A B : Type 0} (P : B → Type 0) (f : A → List B) (xs : List A) → ((x : A) → x ∈ xs → AllByRecursion P (f x)) → AllByRecursion P (flat_map f xs)
 unfolding flat_map
 every_flat_map P f [] h = tt
 every_flat_map P f (x ∷ xs) h = every_append P (f x) (flat_map f xs) (h x (here refl)) (every_flat_map P f xs (λ y i. h y (there i)))

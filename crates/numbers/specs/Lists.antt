@@ -20,8 +20,3 @@ insert x (y ∷ ys) = cond (leb y x) (x ∷ y ∷ ys) (y ∷ insert x ys)
 unfoldable pub descending : List ℕ → List ℕ
 descending [] = []
 descending (x ∷ xs) = insert x (descending xs)
-
--- P holds of every element
-abbrev pub Every : {A : Type 0} → (A → Type 0) → List A → Type 0
-Every P [] = Unit {0}
-Every P (x ∷ xs) = P x × Every P xs

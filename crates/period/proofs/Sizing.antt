@@ -9,7 +9,8 @@ use lib.Dec.{ltb}
 use lib.ListN.{length, get_or, take, length-take}
 use lib.Seq.{get_or-take}
 use borrow.Author.Tests.{ltb-true, lt-ltb}
-use Rattle.numbers.specs.Lists.{range, Every}
+use Rattle.std.specs.List.{AllByRecursion}
+use Rattle.numbers.specs.Lists.{range}
 use Rattle.numbers.proofs.Lists.{◌∈◌, by_index, first_before, map_eq, range_mem}
 use Rattle.methodology.specs.Account.{DayInput, Account}
 use Rattle.methodology.specs.Member.{loss}
@@ -80,7 +81,7 @@ module _ {p : Period} {d : DayInput} {room : ℕ} (s : Admits p d room) where
   pub reported_few : reported_by p d ≤ greatest_total
   reported_few = omega (arith, s.in_range_lem.bounded, max_le_total (held_by p) (accounts_brought p d), total_few)
 
-  pub written_few : 0 < total (held_by p) (accounts_brought p d) → Every Few (dailies (held_by p) (reported_by p d) (accounts_brought p d))
+  pub written_few : 0 < total (held_by p) (accounts_brought p d) → AllByRecursion Few (dailies (held_by p) (reported_by p d) (accounts_brought p d))
   written_few positive =
       dailies_few (held_by p) (reported_by p d) (accounts_brought p d)
       (λ m i. record { positive = positive; part = loss_le_total (held_by p) (accounts_brought p d) i; bounded = total_few })

@@ -6,9 +6,9 @@ use mathlib.Core.List.{List, [], ◌∷◌, ◌++◌, map, map-append, flat_map}
 use Prim.Native.Nat.{ℕ, ◌*◌, ◌≤◌, ◌<◌, max}
 use native.Mathlib.Omega.{arith}
 use lib.ListN.{length, get_or}
+use Rattle.std.specs.List.{AllByRecursion}
 use Rattle.std.proofs.lemmas.List.Folds.{fold-map}
 use Rattle.std.proofs.lemmas.List.Sums.{fold-append}
-use Rattle.numbers.specs.Lists.{Every}
 use Rattle.numbers.specs.Sums.{greatest}
 use Rattle.numbers.specs.Rounding.{round_div}
 use Rattle.numbers.proofs.Rounding.{round_above, round_below}
@@ -54,7 +54,7 @@ module _ (o : Opening) where
   m_is_the_same_lem days = record { highest_own = owns_are days; highest_reported = reports_are days; last_reported = last_is days }
 
   -- what is reported is at most M
-  none_above : (most : ℕ) (days : List KeptDay) → highest o days ≤ most → Every (λ x. x ≤ most) (reports o days)
+  none_above : (most : ℕ) (days : List KeptDay) → highest o days ≤ most → AllByRecursion (λ x. x ≤ most) (reports o days)
   none_above most [] h = tt
   none_above most (d ∷ ds) h =
       (omega (arith, reported_is_m o (d ∷ ds)), none_above most ds (omega (arith, reported_is_m o (d ∷ ds), reported_more o d ds)))
@@ -65,7 +65,7 @@ module _ (o : Opening) where
   at_least_own : (d : KeptDay) (days : List KeptDay) → own_max_eul o d.accounts ≤ reported_max_eul o (d ∷ days)
   at_least_own d days = omega (arith, reported_more o d days)
 
-  never_falls : (d : KeptDay) (days : List KeptDay) → Every (λ x. x ≤ reported_max_eul o (d ∷ days)) (reports o days)
+  never_falls : (d : KeptDay) (days : List KeptDay) → AllByRecursion (λ x. x ≤ reported_max_eul o (d ∷ days)) (reports o days)
   never_falls d days = none_above (reported_max_eul o (d ∷ days)) days (omega (arith, reported_more o d days))
 
 cents : (e Max T : ℕ) → 0 < T
@@ -134,7 +134,7 @@ of_day cs c d out T Max holds is said =
           wrote ∙ ap (λ (x : Register). written x call) left
           ∙ ap (λ (l : List ℕ). flat_map (λ m. five (loss o.k accts m) (get_or l 1 0) (get_or l 0 0)) (members o.n)) told;
       fits =
-          let (T-fits, (Max-fits, _)) = subst (Every Fits64) same fit.returned_fits in
+          let (T-fits, (Max-fits, _)) = subst (AllByRecursion Fits64) same fit.returned_fits in
           (T-fits, (Max-fits, rw wrote fit.written_fits));
     }
 

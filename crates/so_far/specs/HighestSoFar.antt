@@ -2,6 +2,7 @@
 -- period's first accepted day to this one. M does not change, and this is to be shown for all periods." `HighestSoFar` is the claim. That
 -- the figures in a report never fall, and that the fund's M is the last of them, `AsPrinted` says of its bytes.
 use Rattle.std.specs.Prelude.{◌≡◌, ℕ, ◌+◌, ◌*◌, ◌≤◌, ◌<◌, max, get_or}
+use Rattle.std.specs.List.{AllByRecursion}
 use mathlib.Core.List.{List, [], ◌∷◌, ◌++◌, map, flat_map}
 use seplogic.Ra.Ura.{Ura}
 use base.Logic.{SProp}
@@ -9,7 +10,6 @@ use prog.Memory.{Memory}
 use prog.Routine.{Routine}
 use types.Logic.{Logic}
 use contract.Monad.{Fun}
-use Rattle.numbers.specs.Lists.{Every}
 use Rattle.numbers.specs.Sums.{greatest}
 use Rattle.methodology.specs.declared.Status.TheVariants.{Open}
 use Rattle.methodology.specs.declared.Opening.{Opening}
@@ -70,12 +70,12 @@ pub record DayReports (g : Register) (notes : List ℕ) (d : DayInput) (T Max : 
   pub so_far : Max ≡ max (own_of g d) (get_or notes 0 0)
   pub first_is_own : notes ≡ [] → Max ≡ own_of g d
   pub at_least_own : own_of g d ≤ Max
-  pub never_falls : Every (λ x. x ≤ Max) notes
+  pub never_falls : AllByRecursion (λ x. x ≤ Max) notes
   -- T, e and share are as they were, and the very Max that is returned is in the three cent figures; T is above 0, as `cents` asks
   pub t_above : 0 < T
   pub t_is : T ≡ total g.held (accounts g.held.k d)
   pub writes : out ≡ flat_map (λ m. five (loss g.held.k (accounts g.held.k d) m) Max T) (members g.held.n)
-  pub fits : Every Fits64 (T ∷ Max ∷ out)
+  pub fits : AllByRecursion Fits64 (T ∷ Max ∷ out)
 
 -- all that the register holds after an accepted opening
 abbrev pub opened_by : Opening → Register
@@ -88,7 +88,7 @@ pub record HighestSoFar : Type 2 where
   pub m_is_the_same : (o : Opening) (days : List KeptDay) → MIsTheSame (owns o days) (reports o days) (highest o days)
   pub first_is_own : (o : Opening) (d : KeptDay) → reported_max_eul o (d ∷ []) ≡ own_max_eul o d.accounts
   pub at_least_own : (o : Opening) (d : KeptDay) (days : List KeptDay) → own_max_eul o d.accounts ≤ reported_max_eul o (d ∷ days)
-  pub never_falls : (o : Opening) (d : KeptDay) (days : List KeptDay) → Every (λ x. x ≤ reported_max_eul o (d ∷ days)) (reports o days)
+  pub never_falls : (o : Opening) (d : KeptDay) (days : List KeptDay) → AllByRecursion (λ x. x ≤ reported_max_eul o (d ∷ days)) (reports o days)
   -- the three cent figures are the exact fraction rounded once, whatever Max is, above T too
   pub cents : (e Max T : ℕ) → 0 < T
       → Nearest (value e Max T) (100 * e * Max) T × Nearest (reserve e Max T) (110 * e * Max) T × Nearest (estimate e Max T) (220 * e * Max) T
