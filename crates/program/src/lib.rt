@@ -2,7 +2,7 @@
 // that no part of a text passes for the whole. The text comes from a reader that the caller names: standard input, or in a test one that fails.
 #![tactic(auto)]
 
-ghost use Rattle.std.specs.Prelude.{List, ◌≡◌, ℕ, ◌≤◌, ◌<◌, length, take, IfOk, IfErr, IsErr};
+ghost use Rattle.std.specs.Prelude.{List, ◌≡◌, ℕ, ◌≤◌, ◌<◌, length, take, IfOk, IfErr, is_err};
 ghost use Rattle.std.specs.Io.KnownBytes.{Consumes, IsAtEnd};
 ghost use Rattle.methodology.specs.Text.{report_of};
 
@@ -46,18 +46,16 @@ pub fn read_all<R: Read>(from: &mut R, text: &mut [u8]) -> Result<usize, Cut>
     Ok(done)
 }
 
-// What is to be written: nothing where a read failed; else the report of an input whose first `TEXT_ROOM` bytes, or all if it is shorter, are
-// the first of the buffer.
-fn report_of(text: &[u8], read: Result<usize, Cut>, out: &mut [u8]) -> usize
+// The report of an input whose first `TEXT_ROOM` bytes, or all if it is shorter, are the first of the buffer: how many bytes it has. Where a
+// read failed there is none.
+fn report_of(text: &[u8], read: Result<usize, Cut>, out: &mut [u8]) -> Result<usize, Cut>
     requires { IfOk read (λ n. n ≤ length text.now) × (length text.now ≡ TEXT_ROOM) × (length out.old ≡ REPORT_ROOM) }
-    ensures value { IsErr read → result ≡ 0 }
-    ensures out_after { IfOk read (λ n. (all : List ℕ) → take TEXT_ROOM all ≡ take n text.now → take result out.new ≡ report_of all) }
-    ensures upper_bound { result ≤ length out.new }
+    ensures failed { is_err result ≡ is_err read }
+    ensures out_after { IfOk read (λ n. IfOk result (λ end. (all : List ℕ) → take TEXT_ROOM all ≡ take n text.now → take end out.new ≡ report_of all)) }
+    ensures upper_bound { IfOk result (λ end. end ≤ length out.new) }
 {
-    match read {
-        Ok(n) => month::report(&text[..n], out),
-        Err(_) => 0,
-    }
+    let n = read?;
+    Ok(month::report(&text[..n], out))
 }
 
 // Writes the report of what the reader gives. Lent by its type, an array has its length without counting it.
@@ -68,10 +66,10 @@ fn answer<R: Read>(
     out: &mut [u8; REPORT_ROOM],
 ) {
     let read = read_all(from, text);
-    if read.is_err() {
+    let Ok(end) = report_of(text, read, out) else {
         let _ = rt.eprint("sizing: standard input cannot be read\n");
-    }
-    let end = report_of(text, read, out);
+        return;
+    };
     if rt.write_all(&out[..end]).is_err() {
         let _ = rt.eprint("sizing: standard output cannot be written\n");
     }
