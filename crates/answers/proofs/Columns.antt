@@ -1,15 +1,14 @@
 -- The sums of columns: a member's number more, and that a day's fit 64 bits, by the most that a day writes.
-use mathlib.Core.Path.{◌≡◌, sym, ap, ◌∙◌}
+use mathlib.Core.Path.{◌≡◌, ap, ◌∙◌}
 use mathlib.Core.List.{List}
 use Prim.Native.Nat.{ℕ, suc, ◌+◌, ◌-◌, ◌*◌, ◌^◌, ◌≤◌, ◌<◌}
 use native.Mathlib.Nat.{sub-zero}
-use native.Mathlib.Numerals.{add-one}
 use native.Mathlib.Omega.{arith}
 use lib.ListN.{get_or}
-use Rattle.std.specs.List.{AllByRecursion}
-use Rattle.numbers.specs.Lists.{range}
+use Rattle.std.specs.List.{AllByRecursion, range_with_len}
+use Rattle.std.proofs.lemmas.List.FromFn.{length-range_with_len}
 use Rattle.numbers.specs.Sums.{Σ}
-use Rattle.numbers.proofs.Lists.{range_length, part_at, every_at, every_take, every_drop}
+use Rattle.numbers.proofs.Lists.{part_at, every_at, every_take, every_drop}
 use Rattle.numbers.proofs.Sums.{Σ-bound}
 use Rattle.methodology.specs.Account.{members}
 use Rattle.methodology.specs.Text.{stretch, column_sum, totals}
@@ -23,17 +22,17 @@ module _ (width n : ℕ) (out : List ℕ) (c : ℕ) where
 
   -- the numbers of the members after m
   abbrev pub left : (m : ℕ) → ℕ
-  left m = Σ (range (m + 1) (n - m)) of_member
+  left m = Σ (range_with_len (m + 1) (n - m)) of_member
 
   pub left_first : left 0 ≡ column_sum width n out c
   unfolding column_sum
-  left_first = ap (λ (count : ℕ). Σ (range 1 count) of_member) (sub-zero n)
+  left_first = ap (λ (count : ℕ). Σ (range_with_len 1 count) of_member) (sub-zero n)
 
   pub left_none : (m : ℕ) → n ≤ m → left m ≡ 0
-  unfolding range Σ
+  unfolding Σ
   left_none m h =
       let none : n - m ≡ 0 = omega arith in
-      ap (λ (count : ℕ). Σ (range (m + 1) count) of_member) none
+      ap (λ (count : ℕ). Σ (range_with_len (m + 1) count) of_member) none
 
   at_index : c < width → (m : ℕ) → of_member (m + 1) ≡ get_or out (width * m + c) 0
   at_index inside m =
@@ -42,11 +41,10 @@ module _ (width n : ℕ) (out : List ℕ) (c : ℕ) where
 
   -- that of member m + 1 is the next
   pub left_next : c < width → (m : ℕ) → m < n → left m ≡ get_or out (width * m + c) 0 + left (m + 1)
-  unfolding range Σ
+  unfolding Σ
   left_next inside m h =
       let some : n - m ≡ suc (n - (m + 1)) = omega arith in
-      ap (λ (count : ℕ). Σ (range (m + 1) count) of_member) some
-      ∙ ap (λ (first : ℕ). of_member (m + 1) + Σ (range first (n - (m + 1))) of_member) (sym (add-one (m + 1)))
+      ap (λ (count : ℕ). Σ (range_with_len (m + 1) count) of_member) some
       ∙ ap (λ (x : ℕ). x + left (m + 1)) (at_index inside m)
 
 -- ---- how large they are
@@ -59,7 +57,7 @@ unfolding column_sum
 column_few width n c most out h =
     let few = AtMost most in
     let part : (m : ℕ) → AllByRecursion few (stretch width m out) = λ m. every_take few width _ (every_drop few (width * (m - 1)) out h) in
-    rw (range_length 1 n) at (Σ-bound (members n) _ most (λ m i. every_at few (stretch width m out) 0 (omega arith) (part m) c))
+    rw (length-range_with_len 1 n) at (Σ-bound (members n) _ most (λ m i. every_at few (stretch width m out) 0 (omega arith) (part m) c))
 
 pub totals_fit : (n : ℕ) (out : List ℕ) → n ≤ 32 → AllByRecursion Few out → AllByRecursion (λ x. x < 2 ^ 64) (totals n out)
 unfolding totals

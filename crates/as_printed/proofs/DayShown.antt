@@ -6,7 +6,6 @@ use Prim.Native.Nat.{ℕ, suc, ◌-◌, ◌*◌, ◌≤◌}
 use native.Mathlib.Omega.{arith}
 use lib.ListN.{length, get_or, take}
 use Rattle.std.specs.List.{AllByRecursion}
-use Rattle.numbers.specs.Lists.{range}
 use Rattle.numbers.specs.Sums.{Σ}
 use Rattle.numbers.proofs.Lists.{mem_range, part_length, every_append, every_map, every_take, every_drop}
 use Rattle.numbers.proofs.Sums.{Σ-map}
@@ -54,7 +53,7 @@ module _ (number n T Max : ℕ) (out : List ℕ) where
   column_read c = sym (Σ-map (of_member 5 out) (members n) (λ numbers. get_or numbers (suc c) 0))
 
   pub day_adds_up : length out ≡ 5 * n → get_or (totals n out) 0 0 ≡ T → AddsUp n as_read
-  unfolding totals range
+  unfolding totals
   day_adds_up long first =
       record {
         of_members = map-map _ (of_member 5 out) (members n) ∙ map-id (members n);

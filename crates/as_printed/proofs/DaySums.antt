@@ -5,8 +5,9 @@ use mathlib.Core.List.{List, flat_map}
 use Prim.Native.Nat.{ℕ, ◌+◌, ◌-◌, ◌≤◌}
 use native.Mathlib.Omega.{arith}
 use lib.ListN.{length, get_or}
+use Rattle.std.proofs.lemmas.List.FromFn.{length-range_with_len, get_or-range_with_len}
 use Rattle.numbers.specs.Sums.{Σ}
-use Rattle.numbers.proofs.Lists.{range_length, range_at, mem_range}
+use Rattle.numbers.proofs.Lists.{mem_range}
 use Rattle.numbers.proofs.Rows.{rows_part}
 use Rattle.numbers.proofs.Sums.{Σ-eq}
 use Rattle.methodology.specs.declared.Opening.{Opening}
@@ -22,7 +23,7 @@ pub stretch_is : (width : ℕ) (row : ℕ → List ℕ) → ((m : ℕ) → lengt
     → stretch width m (flat_map row (members n)) ≡ row m
 stretch_is width row wide n m low high =
     let back : 1 + (m - 1) ≡ m = omega arith in
-    rows_part width row wide (members n) (m - 1) 0 (omega (arith, range_length 1 n)) ∙ ap row (range_at 1 n (m - 1) 0 (omega arith) ∙ back)
+    rows_part width row wide (members n) (m - 1) 0 (omega (arith, length-range_with_len 1 n)) ∙ ap row (get_or-range_with_len 1 n (m - 1) 0 (omega arith) ∙ back)
 
 module _ (o : Opening) (Max : ℕ) (accts : List Account) where
   abbrev e : (m : ℕ) → ℕ

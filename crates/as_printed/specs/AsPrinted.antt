@@ -3,8 +3,7 @@
 use Rattle.std.specs.Prelude.{◌≡◌, true, false, not, ◌&&◌, ◌||◌, ℕ, ◌+◌, ◌*◌, ◌^◌, ◌≤◌, ◌<◌, eqb, ltb, length, get_or, take, drop}
 use mathlib.Core.List.{List, [], ◌∷◌, ◌++◌, map, flat_map}
 use Rattle.std.specs.Prelude.{Some}
-use Rattle.std.specs.List.{fold, list_any, AllByRecursion}
-use Rattle.numbers.specs.Lists.{range}
+use Rattle.std.specs.List.{fold, list_any, AllByRecursion, range_with_len}
 use Rattle.numbers.specs.Sums.{Σ}
 use Rattle.methodology.specs.declared.Opening.{Opening}
 use Rattle.methodology.specs.Account.{DayInput, Account, members}
@@ -59,7 +58,7 @@ pub record AddsUp (n : ℕ) (d : DayRead) : Type 0 where
   pub of_members : map (λ numbers. get_or numbers 0 0) d.records ≡ members n
   pub wide : AllByRecursion (λ numbers. length numbers ≡ 6) d.records
   -- "Each sum equals that of the day's records as printed"
-  pub sums_are : d.sums ≡ map (λ c. Σ d.records (λ numbers. get_or numbers c 0)) (range 1 5)
+  pub sums_are : d.sums ≡ map (λ c. Σ d.records (λ numbers. get_or numbers c 0)) (range_with_len 1 5)
   -- "and the first equals T"
   pub first_is : get_or d.sums 0 0 ≡ d.T
 

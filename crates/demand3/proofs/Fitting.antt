@@ -7,14 +7,14 @@ use Prim.Native.Nat.{ℕ, ◌+◌, ◌*◌, ◌≤◌, ◌<◌}
 use native.Mathlib.Omega.{arith}
 use lib.ListN.{length, get_or, replicate}
 use lib.Seq.{length-take-le}
-use Rattle.numbers.specs.Lists.{range}
 use Rattle.numbers.specs.Sums.{Σ}
-use Rattle.numbers.proofs.Lists.{◌∈◌, by_index, at_any, replicate_at, table_length, mem_every, every_map, every_flat_map, every_weaken}
+use Rattle.numbers.proofs.Lists.{◌∈◌, by_index, at_any, replicate_at, mem_every, every_map, every_flat_map, every_weaken}
 use Rattle.numbers.proofs.Rows.{rows_length}
 use Rattle.numbers.proofs.Sums.{Σ-bound}
 use Rattle.methodology.specs.declared.Refusal.{Refusal}
 use Rattle.std.specs.Prelude.{Option, Some, None, Result, Ok, Err}
-use Rattle.std.specs.List.{AllByRecursion}
+use Rattle.std.specs.List.{AllByRecursion, range_with_len}
+use Rattle.std.proofs.lemmas.List.FromFn.{length-map-range_with_len}
 use Rattle.methodology.specs.Numbers.{row_number, row_index}
 use Rattle.methodology.specs.declared.Refusal.TheVariants.{BadOpening, OutOfTurn}
 use Rattle.methodology.specs.declared.Opening.{Opening}
@@ -120,8 +120,8 @@ narrow_places o n k group =
     record {
       n = omega arith;
       k = omega arith;
-      groups = every_map Fits64 (λ i. get_or o.groups i 0) (range 0 32) (λ i m. omega (arith, group i));
-      groups_long = table_length (λ i. get_or o.groups i 0) 0 32;
+      groups = every_map Fits64 (λ i. get_or o.groups i 0) (range_with_len 0 32) (λ i m. omega (arith, group i));
+      groups_long = length-map-range_with_len (λ i. get_or o.groups i 0) 0 32;
     }
 
 narrow_opened : (o : Opening) → bad_opening o ≡ false → Narrow (opened_period o)
@@ -141,7 +141,7 @@ narrow_sized p d e q =
             days = omega (arith, r.counted, r.month);
             highest = omega (arith, r.bounded);
             sums = indexed Fits64 (sized_period p d).accrued.sums (λ i. omega (arith, r.sums i, r.counted, r.month));
-            sums_long = table_length (λ i. get_or p.accrued.sums i 0 + share_at p d i) 0 32;
+            sums_long = length-map-range_with_len (λ i. get_or p.accrued.sums i 0 + share_at p d i) 0 32;
           };
     }
 

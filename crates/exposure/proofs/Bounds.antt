@@ -10,8 +10,8 @@ use lib.IntN.{ℤ, pos, nat_abs, ◌+ℤ◌, ◌-ℤ◌}
 use lib.ListN.{length, get_or}
 use borrow.Author.Tests.{ltb-false}
 use Rattle.numbers.specs.Signed.{◌⁺}
-use Rattle.std.specs.List.{filter}
-use Rattle.numbers.specs.Lists.{range, descending}
+use Rattle.std.specs.List.{filter, range_with_len}
+use Rattle.numbers.specs.Lists.{descending}
 use Rattle.numbers.specs.Sums.{Σ}
 use Rattle.numbers.proofs.Tests.{neither}
 use Rattle.numbers.proofs.Signed.{abs_is, abs_add, add, sub, one_zero, ⁺-abs, ⁺-sub}
@@ -46,7 +46,7 @@ module _ (f : Account → ℤ) (accts : List Account) where
       omega (arith, positive_le is_r, Σ-take_le 2 (descending l) (λ x. x), Σ-perm (descending_is l) (λ x. x), Σ-map (λ a. f a ⁺) (filter is_r accts) (λ x. x))
 
   member_abs : 2 * nat_abs (member_eul f accts) ≤ 3 * Σ accts (λ a. nat_abs (f a)) + 1
-  unfolding member_eul house_eul part_b part_c range Σ
+  unfolding member_eul house_eul part_b part_c Σ
   member_abs =
       let v : Account → ℕ = λ a. nat_abs (f a) in
       omega (
@@ -72,12 +72,12 @@ module _ (f : Account → ℤ) (accts : List Account) (h : ℕ) (b : (a : Accoun
   unfolding accounts_of
   of_member_lem m = omega (arith, member_bound f (accounts_of m accts) h (λ a l. b a (mem_keep _ accts l).0), Σ-const (accounts_of m accts) (3 * h))
 
-  members_bound : (m n : ℕ) → Σ (range m n) (λ i. nat_abs (member_eul f (accounts_of i accts))) ≤ 3 * h * length accts
+  members_bound : (m n : ℕ) → Σ (range_with_len m n) (λ i. nat_abs (member_eul f (accounts_of i accts))) ≤ 3 * h * length accts
   unfolding accounts_of
   members_bound m n =
       omega (
         arith,
-        Σ-mono (range m n) _ _ (λ i k. of_member_lem i),
+        Σ-mono (range_with_len m n) _ _ (λ i k. of_member_lem i),
         Σ-classes (λ a. a.heading.member) m n accts (λ a. 3 * h),
         Σ-const accts (3 * h),
       )
@@ -119,11 +119,11 @@ module _ {most : ℕ} {a : Account} (l : Limited most a) where
 
   own_abs : (k : ℕ) → nat_abs (own_eul k a) ≤ 2 * most
   unfolding own_eul largest_decrease
-  own_abs k = eul_abs (greatest_le (range 1 k) _ _ (λ j m. decrease_le j)) l.margin l.extra
+  own_abs k = eul_abs (greatest_le (range_with_len 1 k) _ _ (λ j m. decrease_le j)) l.margin l.extra
 
 -- the total of a day whose accounts are all within a limit
 module _ (most : ℕ) (accts : List Account) (l : (a : Account) → a ∈ accts → Limited most a) where
-  owns : (k m n : ℕ) → Σ (range m n) (λ i. nat_abs (member_own k accts i)) ≤ 3 * most * length accts
+  owns : (k m n : ℕ) → Σ (range_with_len m n) (λ i. nat_abs (member_own k accts i)) ≤ 3 * most * length accts
   unfolding member_own
   owns k = members_bound (own_eul k) accts most (λ a m. own_abs (l a m) k)
 

@@ -11,8 +11,7 @@ use lib.Dec.{eqb}
 use lib.IntN.{ℤ, pos, ◌+ℤ◌, +ℤ_idr}
 use borrow.Author.Tests.{eqb-true, eqb-false, eq-eqb, ne_eqb}
 use Rattle.numbers.specs.Signed.{◌⁺}
-use Rattle.std.specs.List.{filter}
-use Rattle.numbers.specs.Lists.{range}
+use Rattle.std.specs.List.{filter, range_with_len}
 use Rattle.numbers.specs.Sums.{Σℤ, greatest}
 use Rattle.numbers.proofs.Lists.{◌∈◌, upto_more, range_mem, mem_range, keep_snoc, keep_snoc_skip, mem_keep}
 use Rattle.numbers.proofs.Sums.{Σℤ-snoc, greatest_le, greatest_elem}
@@ -32,16 +31,16 @@ group_row o accts g j = row_upto o accts o.n g j
 -- a row before the first member, and with member i + 1 added where it is in the group, or left out
 module _ (o : Opening) (accts : List Account) (g j : ℕ) where
   pub row_none : row_upto o accts 0 g j ≡ pos 0
-  unfolding row_upto range Σℤ
+  unfolding row_upto Σℤ
   row_none = refl
 
   pub row_in : (i : ℕ) → group_number o (i + 1) ≡ g → row_upto o accts (i + 1) g j ≡ row_upto o accts i g j +ℤ member_under accts (i + 1) j
   unfolding row_upto
-  row_in i e = rw (upto_more i, keep_snoc _ (range 1 i) (i + 1) (eq-eqb (group_number o (i + 1)) g e)) (Σℤ-snoc _ (i + 1) _)
+  row_in i e = rw (upto_more i, keep_snoc _ (range_with_len 1 i) (i + 1) (eq-eqb (group_number o (i + 1)) g e)) (Σℤ-snoc _ (i + 1) _)
 
   pub row_out : (i : ℕ) → (group_number o (i + 1) ≡ g → ⊥) → row_upto o accts (i + 1) g j ≡ row_upto o accts i g j
   unfolding row_upto
-  row_out i n = rw (upto_more i, keep_snoc_skip _ (range 1 i) (i + 1) (ne_eqb (group_number o (i + 1)) g n))
+  row_out i n = rw (upto_more i, keep_snoc_skip _ (range_with_len 1 i) (i + 1) (ne_eqb (group_number o (i + 1)) g n))
 
 -- the sum of a member's group: of itself alone, or a row
 module _ (o : Opening) (accts : List Account) (m j : ℕ) where
@@ -65,7 +64,7 @@ module _ (o : Opening) (accts : List Account) where
   of_row g = greatest (scenarios o.k) (λ j. group_row o accts g j ⁺)
 
   abbrev largest : (most : ℕ) → ℕ
-  largest most = max (greatest (members o.n) of_member) (greatest (range 1 most) of_row)
+  largest most = max (greatest (members o.n) of_member) (greatest (range_with_len 1 most) of_row)
 
   group_le : (most m : ℕ) → m ∈ members o.n → group_number o m ≤ most → of_group m ≤ largest most
   group_le most m h k = by (eqb (group_number o m) 0) refl
@@ -93,11 +92,11 @@ module _ (o : Opening) (accts : List Account) where
       → own_max_eul o accts
       ≡ max
       (greatest (members o.n) (λ m. greatest (scenarios o.k) (λ j. member_under accts m j ⁺)))
-      (greatest (range 1 most) (λ g. greatest (scenarios o.k) (λ j. group_row o accts g j ⁺)))
+      (greatest (range_with_len 1 most) (λ g. greatest (scenarios o.k) (λ j. group_row o accts g j ⁺)))
   unfolding own_max_eul
   max_by_rows most h =
       omega (
         arith,
         greatest_le (members o.n) of_group _ (λ m i. group_le most m i (h m i)),
-        greatest_le (range 1 most) of_row _ (λ g i. row_le g (mem_range 1 most i).0),
+        greatest_le (range_with_len 1 most) of_row _ (λ g i. row_le g (mem_range 1 most i).0),
       )

@@ -7,8 +7,8 @@ use native.Mathlib.Omega.{arith}
 use lib.IntN.{ℤ, nat_abs}
 use lib.ListN.{length, take, set, length-set, replicate}
 use lib.Seq.{take-suc-set}
+use Rattle.std.specs.List.{range_with_len}
 use Rattle.numbers.specs.Signed.{◌⁺}
-use Rattle.numbers.specs.Lists.{range}
 use Rattle.numbers.specs.Sums.{Σ}
 use Rattle.numbers.proofs.Signed.{⁺-abs}
 use Rattle.numbers.proofs.Lists.{upto_more}
@@ -24,11 +24,11 @@ pub record LossPass (k : ℕ) (all : List Account) (each : List ℕ) (total i : 
   pub place : Left k all i a
   pub long : length each ≡ 32
   pub bound : total ≤ most_eul * i
-  pub each_are : take i each ≡ map (loss k all) (range 1 i)
-  pub total_is : total ≡ Σ (range 1 i) (loss k all)
+  pub each_are : take i each ≡ map (loss k all) (range_with_len 1 i)
+  pub total_is : total ≡ Σ (range_with_len 1 i) (loss k all)
 
 pub loss_none : {k : ℕ} {all : List Account} {a : Accounts} → Left k all 0 a → LossPass k all (replicate 32 0) 0 0 a
-unfolding range Σ
+unfolding Σ
 loss_none p = record { place = p; long = refl; bound = omega arith; each_are = refl; total_is = refl }
 
 module _ {k : ℕ} {all : List Account} {each : List ℕ} {total i : ℕ} {a : Accounts} (p : LossPass k all each total i a) where

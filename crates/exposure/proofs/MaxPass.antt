@@ -9,10 +9,11 @@ use lib.Dec.{ltb}
 use lib.IntN.{ℤ, pos, nat_abs}
 use lib.Seq.{get_or-take}
 use lib.ListN.{length, get_or, set, length-set, replicate, get_or-replicate, length-replicate}
+use Rattle.std.specs.List.{range_with_len}
+use Rattle.std.proofs.lemmas.List.FromFn.{length-map-range_with_len, get_or-map-range_with_len}
 use Rattle.numbers.specs.Signed.{◌⁺}
-use Rattle.numbers.specs.Lists.{range}
 use Rattle.numbers.specs.Sums.{greatest}
-use Rattle.numbers.proofs.Lists.{at_set, replicate_at, upto_more, mem_range, is_table, table_at, table_length, map_eq}
+use Rattle.numbers.proofs.Lists.{at_set, replicate_at, upto_more, mem_range, is_table, map_eq}
 use Rattle.numbers.proofs.Sums.{greatest_snoc, greatest_map, greatest_eq}
 use Rattle.methodology.specs.declared.Opening.{Opening}
 use Rattle.methodology.specs.Account.{Account, scenarios}
@@ -38,8 +39,8 @@ shape h r = record { tall = r.tall; wide = r.wide; near = λ g l. record { at = 
 
 -- no member passed: all rows are 0
 zeros : (k : ℕ) (f : ℕ → ℤ) → ((j : ℕ) → f j ≡ pos 0) → row_of k f ≡ replicate 16 (pos 0)
-unfolding row_of range
-zeros k f h = map_eq (λ x. cond (ltb x k) (f (suc x)) (pos 0)) (λ x. pos 0) (range 0 16) (λ x m. by x (ltb x k))
+unfolding row_of
+zeros k f h = map_eq (λ x. cond (ltb x k) (f (suc x)) (pos 0)) (λ x. pos 0) (range_with_len 0 16) (λ x m. by x (ltb x k))
   where
     by : (x : ℕ) (t : Bool) → cond t (f (suc x)) (pos 0) ≡ pos 0
     by x true = h (suc x)
@@ -72,7 +73,7 @@ module _ {most : ℕ} {rows : List (List ℤ)} (row : List ℤ) (more : ℕ) (r 
 
 -- the rows of all groups, when the first i members are passed
 abbrev rows_at : Opening → List Account → (i : ℕ) → List (List ℤ)
-rows_at o accts i = map (λ g. row_of o.k (row_upto o accts i g)) (range 1 32)
+rows_at o accts i = map (λ g. row_of o.k (row_upto o accts i g)) (range_with_len 1 32)
 
 module _ (o : Opening) (accts : List Account) where
   rows_none : replicate 32 (replicate 16 (pos 0)) ≡ rows_at o accts 0
@@ -99,15 +100,15 @@ module _ (o : Opening) (accts : List Account) where
   rows_by : (i group : ℕ) → get_or o.groups i 0 ≡ group → group ≤ 32 → with_row (rows_at o accts i) group (row_next i) ≡ rows_at o accts (i + 1)
   unfolding with_row
   rows_by i zero e l =
-      map_eq _ _ (range 1 32) (λ g m. stays i g (λ q. let r = mem_range 1 32 m in omega arith))
+      map_eq _ _ (range_with_len 1 32) (λ g m. stays i g (λ q. let r = mem_range 1 32 m in omega arith))
   rows_by i (suc g₀) e l =
       let rows = rows_at o accts i in
       let sum = plus (get_or rows g₀ []) (row_next i) in
       let g : get_or o.groups i 0 ≡ 1 + g₀ = omega arith in
-      is_table next 1 32 [] (set rows g₀ sum) (length-set rows g₀ sum ∙ table_length now 1 32)
-      (at_set (λ x r. x < 32 → r ≡ next (1 + x)) rows g₀ sum [] (omega (arith, table_length now 1 32))
-      (λ h. ap (λ (r : List ℤ). plus r (row_next i)) (table_at now 1 32 g₀ [] h) ∙ joins i (1 + g₀) g)
-      (λ x n h. table_at now 1 32 x [] h ∙ stays i (1 + x) (λ z. n (omega arith))))
+      is_table next 1 32 [] (set rows g₀ sum) (length-set rows g₀ sum ∙ length-map-range_with_len now 1 32)
+      (at_set (λ x r. x < 32 → r ≡ next (1 + x)) rows g₀ sum [] (omega (arith, length-map-range_with_len now 1 32))
+      (λ h. ap (λ (r : List ℤ). plus r (row_next i)) (get_or-map-range_with_len now 1 32 g₀ (1 + g₀) [] h refl) ∙ joins i (1 + g₀) g)
+      (λ x n h. get_or-map-range_with_len now 1 32 x (1 + x) [] h refl ∙ stays i (1 + x) (λ z. n (omega arith))))
     where
       now : ℕ → List ℤ
       now g = row_of o.k (row_upto o accts i g)
@@ -116,20 +117,20 @@ module _ (o : Opening) (accts : List Account) where
       next g = row_of o.k (row_upto o accts (i + 1) g)
 
   -- the greatest of all rows
-  rows_greatest : o.k ≤ 16 → (i : ℕ) → greatest (rows_at o accts i) (λ row. greatest row (λ z. z ⁺)) ≡ greatest (range 1 32) (λ g. greatest (scenarios o.k) (λ j. row_upto o accts i g j ⁺))
+  rows_greatest : o.k ≤ 16 → (i : ℕ) → greatest (rows_at o accts i) (λ row. greatest row (λ z. z ⁺)) ≡ greatest (range_with_len 1 32) (λ g. greatest (scenarios o.k) (λ j. row_upto o accts i g j ⁺))
   rows_greatest h i =
-      greatest_map _ (range 1 32) (λ row. greatest row (λ z. z ⁺))
-      ∙ greatest_eq (range 1 32) _ _ (λ g m. row_greatest o.k (row_upto o accts i g) h)
+      greatest_map _ (range_with_len 1 32) (λ row. greatest row (λ z. z ⁺))
+      ∙ greatest_eq (range_with_len 1 32) _ _ (λ g m. row_greatest o.k (row_upto o accts i g) h)
 
 pub record MaxPass (o : Opening) (all : List Account) (rows : List (List ℤ)) (top i : ℕ) (a : Accounts) : Type 0 where
   pub place : Left o.k all i a
   pub bounded : Rows (most_eul * i) rows
   pub rows_are : rows ≡ rows_at (listed o) all i
-  pub top_is : top ≡ greatest (range 1 i) (λ m. greatest (scenarios o.k) (λ j. member_under all m j ⁺))
+  pub top_is : top ≡ greatest (range_with_len 1 i) (λ m. greatest (scenarios o.k) (λ j. member_under all m j ⁺))
 
 module _ (o : Opening) (all : List Account) where
   pub max_none : {a : Accounts} → Left o.k all 0 a → MaxPass o all (replicate 32 (replicate 16 (pos 0))) 0 0 a
-  unfolding range greatest
+  unfolding greatest
   max_none p = record { place = p; bounded = none_rows; rows_are = rows_none (listed o) all; top_is = refl }
 
   module _ {rows : List (List ℤ)} {top i : ℕ} {a : Accounts} (p : MaxPass o all rows top i a) where
@@ -144,7 +145,7 @@ module _ (o : Opening) (all : List Account) where
 
       pub row_long : length row ≡ 16
       unfolding row_of
-      row_long = rw row_is (table_length _ 0 16)
+      row_long = rw row_is refl
 
       pub row_near : Near row
       row_near = record { at = λ x. omega (arith, r.bound x) }
@@ -169,8 +170,8 @@ module _ (o : Opening) (all : List Account) where
         let n : i ≡ o.n = omega arith in
         f
         ∙ ap₂ max
-        (p.top_is ∙ ap (λ (x : ℕ). greatest (range 1 x) (λ m. greatest (scenarios o.k) (λ j. member_under all m j ⁺))) n)
+        (p.top_is ∙ ap (λ (x : ℕ). greatest (range_with_len 1 x) (λ m. greatest (scenarios o.k) (λ j. member_under all m j ⁺))) n)
         (e ∙ ap (λ (x : List (List ℤ)). greatest x (λ row. greatest row (λ z. z ⁺))) p.rows_are
         ∙ rows_greatest (listed o) all few i
-        ∙ ap (λ (x : ℕ). greatest (range 1 32) (λ m. greatest (scenarios o.k) (λ j. row_upto (listed o) all x m j ⁺))) n)
+        ∙ ap (λ (x : ℕ). greatest (range_with_len 1 32) (λ m. greatest (scenarios o.k) (λ j. row_upto (listed o) all x m j ⁺))) n)
         ∙ sym (max_by_rows (listed o) all 32 (λ m q. let z = mem_range 1 o.n q in rw (get_or-take o.n o.groups (m - 1) 0 (omega arith)) (g.few (m - 1) (omega arith))))

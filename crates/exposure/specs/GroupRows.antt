@@ -1,10 +1,10 @@
 -- Rows of 16 EULs, one a scenario, and the 32 rows of the groups.
 use Rattle.std.specs.Prelude.{◌≡◌, cond, List, [], map, ℕ, zero, suc, ◌≤◌, ◌<◌, ◌^◌, ltb, ℤ, pos, nat_abs, ◌+ℤ◌, length, get_or, set}
-use Rattle.numbers.specs.Lists.{range}
+use Rattle.std.specs.List.{range_with_len}
 
 -- a row of 16: f under scenarios 1 to k, then 0. Scenario j is at index j - 1.
 unfoldable pub row_of : (k : ℕ) → (f : (j : ℕ) → ℤ) → List ℤ
-row_of k f = map (λ x. cond (ltb x k) (f (suc x)) (pos 0)) (range 0 16)
+row_of k f = map (λ x. cond (ltb x k) (f (suc x)) (pos 0)) (range_with_len 0 16)
 
 -- far from the ends of 64 bits: two such numbers may be added
 pub record Near (row : List ℤ) : Type 0 where
@@ -18,7 +18,7 @@ pub record Summable (a b : List ℤ) : Type 0 where
 
 -- the sum of two rows
 unfoldable pub plus : List ℤ → List ℤ → List ℤ
-plus a b = map (λ x. get_or a x (pos 0) +ℤ get_or b x (pos 0)) (range 0 16)
+plus a b = map (λ x. get_or a x (pos 0) +ℤ get_or b x (pos 0)) (range_with_len 0 16)
 
 -- 32 rows of 16 numbers
 pub record Shape (rows : List (List ℤ)) : Type 0 where

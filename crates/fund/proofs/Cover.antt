@@ -7,10 +7,11 @@ use Prim.Native.Nat.{ℕ, ◌+◌, ◌*◌, ◌≤◌, ◌<◌}
 use native.Mathlib.Nat.{mul-pos}
 use native.Mathlib.Omega.{arith}
 use lib.ListN.{length}
+use Rattle.std.proofs.lemmas.List.FromFn.{length-range_with_len}
 use Rattle.numbers.specs.Sums.{Σ}
 use Rattle.numbers.specs.Fractions.{Fraction, ◌over◌, whole, Proper, ◌⊕◌, ◌⊗◌, ◌≼◌, ◌≺◌, Σᶠ}
 use Rattle.numbers.specs.Rounding.{ceil_div}
-use Rattle.numbers.proofs.Lists.{◌∈◌, none_or_some, range_length, every_mem}
+use Rattle.numbers.proofs.Lists.{◌∈◌, none_or_some, every_mem}
 use Rattle.numbers.proofs.Sums.{Σ-add, Σ-eq, Σ-zero, Σ-bound, Σ-least, Σ-swap}
 use Rattle.numbers.proofs.Fractions.{Σᶠ-proper}
 use Rattle.numbers.proofs.RoundedUp.{Σᶠ-ceil_above, Σᶠ-ceil_below, parts_above, parts_below}
@@ -108,8 +109,8 @@ module _ (o : Opening) (days : List KeptDay) (counted : Counted o days) where
       none_or_some days (λ none. rw (none, raws_none o) (omega arith))
       (λ kept.
       rw (raws_some kept)
-      (rw range_length at
-      (charges_below scale (highest o days) (length days) scale_pos kept (members o.n) (sum_of_shares o days) (rw range_length some) all_shares_below)))
+      (rw length-range_with_len at
+      (charges_below scale (highest o days) (length days) scale_pos kept (members o.n) (sum_of_shares o days) (rw length-range_with_len some) all_shares_below)))
 
 -- the funded contributions exceed the raw charges by exactly the sum of the shortfalls, whatever the charges are
 funded_is : (r : ℕ) → funded r ≡ r + shortfall r

@@ -6,8 +6,9 @@ use Prim.Native.Nat.{ℕ, ◌+◌, ◌*◌, ◌<◌, ◌≤◌}
 use native.Mathlib.Omega.{arith}
 use lib.ListN.{length, take}
 use Rattle.std.specs.List.{AllByRecursion}
+use Rattle.std.proofs.lemmas.List.FromFn.{length-range_with_len, get_or-range_with_len}
 use Rattle.numbers.specs.Rounding.{round_div}
-use Rattle.numbers.proofs.Lists.{◌∈◌, range_length, range_at, every_flat_map}
+use Rattle.numbers.proofs.Lists.{◌∈◌, every_flat_map}
 use Rattle.numbers.proofs.Rows.{flat_map_map, rows_length, rows_at}
 use Rattle.methodology.specs.declared.Opening.{Opening}
 use Rattle.methodology.specs.Account.{Account, members}
@@ -51,11 +52,11 @@ module _ (o : Opening) (Max : ℕ) (accts : List Account) where
   pub dailies_long : length (dailies o Max accts) ≡ 5 * o.n
   unfolding dailies
   dailies_long =
-      rows_length 5 five_of (λ m. five_wide (loss o.k accts m) Max (total o accts)) (members o.n) ∙ ap (λ (n : ℕ). 5 * n) (range_length 1 o.n)
+      rows_length 5 five_of (λ m. five_wide (loss o.k accts m) Max (total o accts)) (members o.n) ∙ ap (λ (n : ℕ). 5 * n) (length-range_with_len 1 o.n)
 
   -- member i + 1's
   pub share_written : (i : ℕ) → i < o.n → share_in (dailies o Max accts) i ≡ share (loss o.k accts (1 + i)) (total o accts)
   unfolding dailies five
   share_written i h =
-      rows_at 5 five_of (λ m. five_wide (loss o.k accts m) Max (total o accts)) (members o.n) i 1 0 0 (omega (arith, range_length 1 o.n)) (omega arith)
-      ∙ ap (λ (m : ℕ). share (loss o.k accts m) (total o accts)) (range_at 1 o.n i 0 h)
+      rows_at 5 five_of (λ m. five_wide (loss o.k accts m) Max (total o accts)) (members o.n) i 1 0 0 (omega (arith, length-range_with_len 1 o.n)) (omega arith)
+      ∙ ap (λ (m : ℕ). share (loss o.k accts m) (total o accts)) (get_or-range_with_len 1 o.n i 0 h)

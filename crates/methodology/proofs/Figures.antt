@@ -8,9 +8,9 @@ use native.Mathlib.Omega.{arith}
 use lib.Dec.{ltb}
 use lib.IntN.{ℤ, pos}
 use lib.ListN.{length, get_or, replicate}
-use Rattle.std.specs.List.{AllByRecursion}
+use Rattle.std.specs.List.{AllByRecursion, range_with_len}
 use Rattle.numbers.specs.Fractions.{Fraction, ◌over◌, Proper, ◌≼◌, ◌≺◌}
-use Rattle.numbers.specs.Lists.{range, first_where}
+use Rattle.numbers.specs.Lists.{first_where}
 use Rattle.methodology.specs.declared.Opening.{Opening}
 use Rattle.methodology.specs.Account.{DayInput, members, accounts, nobody, heading_at}
 use Rattle.methodology.specs.Member.{member_under, member_own}
@@ -130,7 +130,7 @@ ten_figures = refl
 
 -- Beyond document 01: 31 days, on day i of which two members lose i and 33 - i million, so that M is the first day's.
 abbrev month_of_31 : List (List ℤ)
-month_of_31 = map (λ i. pos (i * 1000000) ∷ pos ((33 - i) * 1000000) ∷ []) (range 1 31)
+month_of_31 = map (λ i. pos (i * 1000000) ∷ pos ((33 - i) * 1000000) ∷ []) (range_with_len 1 31)
 
 pub whole_month : closed (groups (0 ∷ 0 ∷ [])) month_of_31 ≡ 17066667 ∷ 50000000 ∷ 100000000 ∷ 18133334 ∷ 50000000 ∷ 100000000 ∷ []
 unfolding computed

@@ -7,13 +7,14 @@ use native.Mathlib.Omega.{arith}
 use lib.Dec.{eqb}
 use lib.ListN.{length}
 use borrow.Author.Tests.{not-true}
-use Rattle.numbers.proofs.Lists.{first_le, table_length}
+use Rattle.numbers.proofs.Lists.{first_le}
 use Rattle.numbers.proofs.Tests.{neither}
 use Rattle.methodology.specs.declared.Heading.{Heading}
 use Rattle.methodology.specs.declared.Status.{Status}
 use Rattle.methodology.specs.declared.Refusal.{Refusal}
 use Rattle.methodology.specs.declared.Refusal.TheVariants.{BadOpening, OutOfTurn, BadDayNumber, BadLengths, BadHeading, BadAmount, NoLoss, BadLine}
 use Rattle.std.specs.Prelude.{Option, Some, None, Ok, Err}
+use Rattle.std.proofs.lemmas.List.FromFn.{length-map-range_with_len}
 use Rattle.methodology.specs.declared.Opening.{Opening}
 use Rattle.methodology.specs.Account.{DayInput, accounts, nobody}
 use Rattle.methodology.specs.Numbers.{row_number, row_index}
@@ -61,7 +62,7 @@ bad_heading_le n prev (h ∷ hs) = by (bad_heading n prev h) (bad_heading_le n h
 -- a day has as many accounts as headings
 pub accounts_long : (k : ℕ) (d : DayInput) → length (accounts k d) ≡ length d.headings
 unfolding accounts
-accounts_long k d = table_length _ 0 (length d.headings)
+accounts_long k d = length-map-range_with_len _ 0 (length d.headings)
 
 -- ---- a row
 

@@ -7,7 +7,7 @@ use Prim.Native.Nat.{ℕ, zero, suc, ◌+◌, ◌-◌, ◌*◌, ◌/◌, ◌%◌
 use native.Mathlib.Omega.{arith}
 use lib.Dec.{ltb}
 use lib.ListN.{length, take, drop, length-append, length-take}
-use Rattle.numbers.proofs.Lists.{range_length}
+use Rattle.std.proofs.lemmas.List.FromFn.{length-range_with_len}
 use Rattle.methodology.specs.Account.{members}
 use Rattle.methodology.specs.Register.{Call, Register, start, last_number, accept, step, returned, written}
 use Rattle.methodology.specs.declared.Refusal.{Refusal}
@@ -47,7 +47,7 @@ rows_short : (word : List ℕ) (width n : ℕ) (out : List ℕ) → length word 
 unfolding rows
 rows_short word width n out h =
     let all : length (rows word width n out) ≤ 132 * length (members n) = pieces_short 132 _ one (members n) in
-    omega (arith, range_length 1 n)
+    omega (arith, length-range_with_len 1 n)
   where
     one : (m : ℕ) → length (printed word (m ∷ stretch width m out)) ≤ 132
     one m = let part = drop (width * (m - 1)) out in omega (arith, printed_short word (m ∷ take width part), length-take width part)

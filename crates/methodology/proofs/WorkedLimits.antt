@@ -5,7 +5,7 @@ use mathlib.Core.List.{List, [], ◌∷◌, ◌++◌, map, flat_map}
 use Prim.Native.Nat.{ℕ, ◌-◌, ◌*◌}
 use lib.IntN.{pos}
 use lib.ListN.{replicate}
-use Rattle.numbers.specs.Lists.{range}
+use Rattle.std.specs.List.{range_with_len}
 use Rattle.methodology.specs.Register.{Call, day, closing, start, accepted, refused, refused_at}
 use Rattle.methodology.proofs.Samples.{computed, H, U, Line, acct, minus, losing, day_of, brings, Exchange, ◌gets◌, ◌gets◌writing◌, played}
 
@@ -13,12 +13,12 @@ use Rattle.methodology.proofs.Samples.{computed, H, U, Line, acct, minus, losing
 abbrev member_32 : List Exchange
 member_32 =
     brings 32 1 (replicate 30 0 ++ (32 ∷ 32 ∷ [])) gets accepted []
-    ∷ day (day_of 31 (map (λ m. losing m 0 H (pos 1)) (range 1 31) ++ (losing 32 0 H (pos 9) ∷ []))) 160
+    ∷ day (day_of 31 (map (λ m. losing m 0 H (pos 1)) (range_with_len 1 31) ++ (losing 32 0 H (pos 9) ∷ []))) 160
     gets accepted (40 ∷ 10 ∷ [])
-    writing (flat_map (λ m. 1 ∷ 25000000000 ∷ 25 ∷ 28 ∷ 55 ∷ []) (range 1 31) ++ (9 ∷ 225000000000 ∷ 225 ∷ 248 ∷ 495 ∷ []))
+    writing (flat_map (λ m. 1 ∷ 25000000000 ∷ 25 ∷ 28 ∷ 55 ∷ []) (range_with_len 1 31) ++ (9 ∷ 225000000000 ∷ 225 ∷ 248 ∷ 495 ∷ []))
     ∷ closing 96
     gets accepted (1 ∷ 10 ∷ 1600000000 ∷ [])
-    writing (flat_map (λ m. 1 ∷ 50000000 ∷ 100000000 ∷ []) (range 1 31) ++ (3 ∷ 50000000 ∷ 100000000 ∷ []))
+    writing (flat_map (λ m. 1 ∷ 50000000 ∷ 100000000 ∷ []) (range_with_len 1 31) ++ (3 ∷ 50000000 ∷ 100000000 ∷ []))
     ∷ []
 
 -- a month of 32 members that has not begun
@@ -26,7 +26,7 @@ abbrev not_begun : List Exchange
 not_begun =
     brings 32 16 (replicate 32 32) gets accepted []
     ∷ closing 95 gets refused 4
-    ∷ closing 96 gets accepted (0 ∷ 0 ∷ 1600000000 ∷ []) writing (flat_map (λ m. 0 ∷ 50000000 ∷ 100000000 ∷ []) (range 1 32))
+    ∷ closing 96 gets accepted (0 ∷ 0 ∷ 1600000000 ∷ []) writing (flat_map (λ m. 0 ∷ 50000000 ∷ 100000000 ∷ []) (range_with_len 1 32))
     ∷ []
 
 -- two Affiliates in group 32 that lose 3 and 4 under one scenario of 16 alone: Max EUL is their sum
@@ -57,7 +57,7 @@ one_by_one =
     day (day_of j (acct 1 0 H (pos 20) 0 0 (replicate (j - 1) (pos 20) ++ (pos (20 - j) ∷ replicate (16 - j) (pos 20))) ∷ [])) 5
     gets accepted (j ∷ j ∷ [])
     writing (j ∷ 1000000000000 ∷ 100 * j ∷ 110 * j ∷ 220 * j ∷ []))
-    (range 1 16)
+    (range_with_len 1 16)
     ++ (closing 3 gets accepted (16 ∷ 16 ∷ 50000000 ∷ []) writing (18 ∷ 50000000 ∷ 100000000 ∷ []) ∷ [])
 
 -- row 6 of each of 16 stresses
@@ -66,11 +66,11 @@ stress_outside =
     brings 1 16 (0 ∷ []) gets accepted []
     ∷ map
     (λ j. day (day_of 1 (acct 1 0 H (pos 0) 0 0 (replicate (j - 1) (pos 0) ++ (pos 1000000000001 ∷ replicate (16 - j) (pos 0))) ∷ [])) 5 gets refused_at 6 0)
-    (range 1 16)
+    (range_with_len 1 16)
 
 -- 256 accounts of one member; the last at index 255
 abbrev with_last : Line → Call
-with_last line = day (day_of 1 (losing 1 0 H (pos 1) ∷ map (λ i. losing 1 i U (pos 1)) (range 1 254) ++ (line ∷ []))) 5
+with_last line = day (day_of 1 (losing 1 0 H (pos 1) ∷ map (λ i. losing 1 i U (pos 1)) (range_with_len 1 254) ++ (line ∷ []))) 5
 
 abbrev accounts_256 : List Exchange
 accounts_256 =
@@ -87,7 +87,7 @@ falling number kind = acct 1 number kind (pos 1000000000000) 0 0 (minus 10000000
 abbrev highest_of_all : List Exchange
 highest_of_all =
     brings 1 1 (0 ∷ []) gets accepted []
-    ∷ day (day_of 1 (falling 0 H ∷ map (λ i. falling i U) (range 1 255))) 5
+    ∷ day (day_of 1 (falling 0 H ∷ map (λ i. falling i U) (range_with_len 1 255))) 5
     gets accepted (767000000000000 ∷ 767000000000000 ∷ [])
     writing (767000000000000 ∷ 1000000000000 ∷ 76700000000000000 ∷ 84370000000000000 ∷ 168740000000000000 ∷ [])
     ∷ day (day_of 2 (losing 1 0 H (pos 1) ∷ [])) 5

@@ -1,8 +1,8 @@
 -- Document 01, "From an account to a member", first half: a period's members and scenarios, a day's accounts, and an account's EUL;
 -- 001, 6.1.1(2) to (4).
 use Rattle.std.specs.Prelude.{List, [], map, ℕ, ◌+◌, ◌*◌, ℤ, pos, ◌+ℤ◌, ◌-ℤ◌, length, get_or, take, drop}
+use Rattle.std.specs.List.{range_with_len}
 use Rattle.numbers.specs.Signed.{◌⁺}
-use Rattle.numbers.specs.Lists.{range}
 use Rattle.numbers.specs.Sums.{greatest}
 use Rattle.methodology.specs.declared.Opening.{Opening}
 use Rattle.methodology.specs.declared.DayTerms.{DayTerms}
@@ -21,11 +21,11 @@ no_opening = record { n = 0; k = 0; groups = [] }
 
 -- the members, 1 to n
 abbrev pub members : (n : ℕ) → List ℕ
-members n = range 1 n
+members n = range_with_len 1 n
 
 -- the stress scenarios, 1 to k
 abbrev pub scenarios : (k : ℕ) → List ℕ
-scenarios k = range 1 k
+scenarios k = range_with_len 1 k
 
 -- What a day brings: its terms (`DayTerms`, declared in src/lib.rt), which are its number, and in four lent slices its accounts. "No field
 -- may be missing." "The headings of a day's accounts (member, account number, kind) come as a lent slice of records [..]; the NPVs come as
@@ -69,7 +69,7 @@ account_at k d i =
 
 -- A day's accounts, in the order of their headings.
 unfoldable pub accounts : (k : ℕ) → DayInput → List Account
-accounts k d = map (account_at k d) (range 0 (length d.headings))
+accounts k d = map (account_at k d) (range_with_len 0 (length d.headings))
 
 -- "Kinds: H (0) house; R (1) client, no Affiliate, replacement member appointed [..]; A (2) client that is an Affiliate of the member;
 -- U (3) client with no such appointment."

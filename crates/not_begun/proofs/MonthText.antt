@@ -4,14 +4,14 @@ use mathlib.Core.Path.{◌≡◌, refl, sym, ap, ◌∙◌}
 use mathlib.Core.Bool.{true, false, cond}
 use mathlib.Core.List.{List, [], ◌∷◌, ◌++◌, flat_map, append_assoc, append-nil}
 use Rattle.std.specs.Prelude.{Some}
-use Rattle.std.specs.List.{AllByRecursion}
-use Prim.Native.Nat.{ℕ, zero, suc, ◌+◌, ◌-◌, ◌^◌, ◌≤◌, ◌<◌}
+use Rattle.std.specs.List.{AllByRecursion, range_with_len}
+use Prim.Native.Nat.{ℕ, zero, suc, ◌+◌, ◌^◌, ◌≤◌, ◌<◌}
 use native.Mathlib.Omega.{arith}
+use native.Mathlib.Numerals.{add-one}
 use lib.Dec.{eqb, ltb}
 use lib.ListN.{length, get_or, take, length-append}
 use lib.Seq.{take-suc, take_all, length-take-le}
 use borrow.Author.Tests.{eq-eqb, ne_eqb, le-ltb}
-use Rattle.numbers.specs.Lists.{range}
 use Rattle.numbers.proofs.Lists.{none_any, every_mem, every_append, every_flat_map, every_weaken}
 use Rattle.methodology.specs.declared.Opening.{Opening}
 use Rattle.methodology.specs.Account.{with_groups, members}
@@ -120,20 +120,21 @@ module _ (o : Opening) (good : bad_opening o ≡ false) where
       line_read_lem i (bytes "member") (suc count ∷ group_number o (suc count) ∷ []) rest (member (up_to count)) begins_member (omega arith)
       ∙ rw (read, one_more count h, counted (suc count) (omega arith), eq-eqb (suc count) (suc count) refl)
 
-  -- from there on, where `left` more are due after it, to what follows them
-  from_member : (left count i : ℕ) (end : List ℕ) → count + suc left ≡ o.n
-      → report_from i (split LF (flat_map member_line (range (suc count) (suc left)) ++ end)) (member (up_to count))
-      ≡ report_from (i + suc left) (split LF end) (day opened_by_lem)
-  unfolding flat_map range followed_by opened
-  from_member zero count i end h =
+  -- from there on, where `left` are due, to what follows them
+  from_member : (left count i : ℕ) (end : List ℕ) → 1 ≤ left → count + left ≡ o.n
+      → report_from i (split LF (flat_map member_line (range_with_len (suc count) left) ++ end)) (member (up_to count))
+      ≡ report_from (i + left) (split LF end) (day opened_by_lem)
+  unfolding flat_map followed_by opened
+  from_member zero count i end some h = absurd (omega arith)
+  from_member (suc zero) count i end some h =
       rw (append-nil (member_line (suc count)))
       (member_read count i end (omega arith) ∙ rw (eq-eqb (suc count) o.n (omega arith), all_groups (suc count) (omega arith), opening_clear))
-  from_member (suc left) count i end h =
-      let more = flat_map member_line (range (suc (suc count)) (suc left)) in
-      rw (append_assoc (member_line (suc count)) more end)
+  from_member (suc (suc left)) count i end some h =
+      let more = flat_map member_line (range_with_len (suc (suc count)) (suc left)) in
+      rw (add-one (suc count), append_assoc (member_line (suc count)) more end)
       (member_read count i (more ++ end) (omega arith)
       ∙ rw (ne_eqb (suc count) o.n (λ e. omega (arith, e)))
-      (from_member left (suc count) (i + 1) end (omega arith) ∙ ap (λ (j : ℕ). report_from j (split LF end) (day opened_by_lem)) (omega arith)))
+      (from_member (suc left) (suc count) (i + 1) end (omega arith) (omega arith) ∙ ap (λ (j : ℕ). report_from j (split LF end) (day opened_by_lem)) (omega arith)))
 
   period_read : read_line period 1 (line_with (bytes "period") (o.n ∷ o.k ∷ [])) ≡ goes_on [] (member (up_to 0))
   unfolding read_line read_period
@@ -153,14 +154,13 @@ module _ (o : Opening) (good : bad_opening o ≡ false) where
   pub to_the_end : (rest : List ℕ) → report_of (text_of o ++ rest) ≡ report_from (o.n + 3) (split LF rest) (after_end (step start (Call.opening o)) (o.n + 2))
   unfolding report_of followed_by
   to_the_end rest =
-      let all : suc (o.n - 1) ≡ o.n = omega (arith, limits.members_some) in
       let lines = flat_map member_line (members o.n) in
       let text : text_of o ++ rest ≡ period_line ++ (lines ++ (end_line ++ rest)) =
       rw (append_assoc period_line (lines ++ end_line) rest, append_assoc lines end_line rest) in
       ap report_of text
       ∙ line_read_lem 1 (bytes "period") (o.n ∷ o.k ∷ []) (lines ++ (end_line ++ rest)) period begins_period (omega arith)
       ∙ ap (λ (r : Read). followed_by r (report_from 2 (split LF (lines ++ (end_line ++ rest))))) period_read
-      ∙ rw all at (from_member (o.n - 1) 0 2 (end_line ++ rest) (omega arith))
+      ∙ from_member o.n 0 2 (end_line ++ rest) limits.members_some (omega arith)
       ∙ end_read (2 + o.n) opened_by_lem rest
       ∙ ap (λ (i : ℕ). report_from (i + 1) (split LF rest) (after_end opened_by_lem i)) (omega arith)
       ∙ ap (λ (i : ℕ). report_from i (split LF rest) (after_end opened_by_lem (o.n + 2))) (omega arith)

@@ -8,7 +8,8 @@ use Prim.Native.Nat.{ℕ, ◌+◌, ◌*◌, ◌<◌}
 use native.Mathlib.Omega.{arith}
 use lib.ListN.{length, take}
 use Rattle.std.proofs.lemmas.List.Sums.{fold_push}
-use Rattle.numbers.proofs.Lists.{◌∈◌, range_length, mem_range, map_eq}
+use Rattle.std.proofs.lemmas.List.FromFn.{length-range_with_len}
+use Rattle.numbers.proofs.Lists.{◌∈◌, mem_range, map_eq}
 use Rattle.numbers.proofs.Rows.{flat_map_map}
 use Rattle.numbers.proofs.Sums.{Σ-const}
 use Rattle.methodology.specs.declared.Status.TheVariants.{Open}
@@ -44,7 +45,7 @@ writes_none o = refl
 
 total_none : (o : Opening) → total_funded o [] ≡ o.n * 50000000
 unfolding total_funded raw charge funded
-total_none o = Σ-const (members o.n) 50000000 ∙ ap (λ (n : ℕ). n * 50000000) (range_length 1 o.n)
+total_none o = Σ-const (members o.n) 50000000 ∙ ap (λ (n : ℕ). n * 50000000) (length-range_with_len 1 o.n)
 
 -- ---- the register
 

@@ -1,18 +1,18 @@
 -- How a program fills a list: a table place by place, and a buffer row by row. Each has its start, its step and its end.
-use mathlib.Core.Path.{◌≡◌, refl, sym, ap, ◌∙◌}
+use mathlib.Core.Path.{◌≡◌, refl, ◌∙◌}
 use mathlib.Core.Bool.{Bool, true, false}
 use mathlib.Core.List.{List, ◌++◌, map, flat_map, append-nil}
 use Prim.Native.Nat.{ℕ, ◌+◌, ◌-◌, ◌*◌, ◌≤◌, ◌<◌}
 use native.Mathlib.Omega.{arith}
-use native.Mathlib.Nat.{zero-add}
 use lib.Dec.{ltb}
 use lib.ListN.{length, get_or, take, drop, set, length-drop, length-set, drop_of_length-le}
 use lib.Seq.{take_all, get_or-set_other}
 use borrow.Author.Count.{below_none}
 use borrow.Author.Tests.{ltb-true, ltb-false}
 use borrow.Rule.Slice.PartMut.{put_mid, mid_of, same_len_mid}
-use Rattle.numbers.specs.Lists.{range}
-use Rattle.numbers.proofs.Lists.{at_set, is_table}
+use Rattle.std.specs.List.{range_with_len}
+use Rattle.std.proofs.lemmas.List.FromFn.{fill_by_all}
+use Rattle.numbers.proofs.Lists.{at_set}
 use Rattle.numbers.proofs.Rows.{rows_none, rows_more, rows_end}
 
 -- a list of n elements: the first i are f's, the others still those of `old`; past the end stands d
@@ -36,14 +36,14 @@ module _ {A : Type 0} (n : ℕ) (f : ℕ → A) (d : A) (old : List A) where
       }
 
   -- at the end all are f's: the first i, and the others where `old` has them already
-  pub filled_rest : {l : List A} {i : ℕ} → ((x : ℕ) → i ≤ x → x < n → get_or old x d ≡ f x) → Filled n f d old i l → l ≡ map f (range 0 n)
-  filled_rest {l} {i} same p = is_table f 0 n d l p.long (λ x h. by x (ltb x i) refl h ∙ ap f (sym (zero-add x)))
+  pub filled_rest : {l : List A} {i : ℕ} → ((x : ℕ) → i ≤ x → x < n → get_or old x d ≡ f x) → Filled n f d old i l → l ≡ map f (range_with_len 0 n)
+  filled_rest {l} {i} same p = fill_by_all f l n d p.long (λ x h. by x (ltb x i) refl h)
     where
       by : (x : ℕ) (t : Bool) → ltb x i ≡ t → x < n → get_or l x d ≡ f x
       by x true q h = p.done x (ltb-true x i q)
       by x false q h = let g = ltb-false x i q in p.rest x g ∙ same x g h
 
-  pub filled_all : {l : List A} {i : ℕ} → n ≤ i → Filled n f d old i l → l ≡ map f (range 0 n)
+  pub filled_all : {l : List A} {i : ℕ} → n ≤ i → Filled n f d old i l → l ≡ map f (range_with_len 0 n)
   filled_all k p = filled_rest (λ x h g. let no_way : ⊥ = omega arith in absurd no_way) p
 
 -- what out holds when all of it from a on was lent, and came back with row in place of the first w elements

@@ -12,12 +12,13 @@ use native.Mathlib.Omega.{arith}
 use native.Mathlib.Numerals.{add-one}
 use native.Mathlib.Nat.{not-suc-le-zero, le_of_suc-le-suc, add-zero, zero-add, suc-add, add-suc, add_comm, sub-zero, zero-sub, suc-sub-suc}
 use lib.Dec.{eqb}
-use lib.ListN.{length, get_or, take, drop, set, replicate, length-map, length-drop, drop_of_length-le}
+use lib.ListN.{length, get_or, take, drop, set, replicate, length-drop, drop_of_length-le}
 use lib.Seq.{drop-cons, drop-drop, take-nil, drop-nil, take-take, get_or-take, get_or-drop, get_or-set_same, get_or-set_other, length-take-le, ext_get_or}
 use borrow.Author.Count.{below_none, below_more}
 use borrow.Author.Tests.{eqb-true, eqb-false}
-use Rattle.std.specs.List.{filter, list_any, AllByRecursion}
-use Rattle.numbers.specs.Lists.{range, first_where}
+use Rattle.std.specs.List.{filter, list_any, AllByRecursion, range_with_len}
+use Rattle.std.proofs.lemmas.List.FromFn.{length-range_with_len, get_or-range_with_len, length-map-range_with_len, get_or-map-range_with_len}
+use Rattle.numbers.specs.Lists.{first_where}
 use Rattle.numbers.proofs.Tests.{neither}
 
 infix 50 ◌∈◌
@@ -71,78 +72,41 @@ pub none_or_some : {A P : Type 0} (xs : List A) → (xs ≡ [] → P) → (0 < l
 none_or_some [] f g = f refl
 none_or_some (x ∷ xs) f g = g (omega arith)
 
--- ranges
-pub range_length : (a n : ℕ) → length (range a n) ≡ n
-unfolding range
-range_length a zero = refl
-range_length a (suc n) = ap suc (range_length (suc a) n)
-
-pub range_at : (a n i d : ℕ) → i < n → get_or (range a n) i d ≡ a + i
-unfolding range
-range_at a zero i d h = absurd (not-suc-le-zero h)
-range_at a (suc n) zero d h = sym (add-zero a)
-range_at a (suc n) (suc i) d h = range_at (suc a) n i d (le_of_suc-le-suc h) ∙ omega arith
-
-pub range_append : (a m n : ℕ) → range a (m + n) ≡ range a m ++ range (a + m) n
-unfolding range
+-- ranges: one after another, and one number more at the end
+pub range_append : (a m n : ℕ) → range_with_len a (m + n) ≡ range_with_len a m ++ range_with_len (a + m) n
 range_append a zero n = rw (add-zero, zero-add)
-range_append a (suc m) n = rw (suc-add, add-suc, ← suc-add) (ap (λ (l : List ℕ). a ∷ l) (range_append (suc a) m n))
+range_append a (suc m) n =
+    let e : a + suc m ≡ a + 1 + m = omega arith in
+    rw (suc-add, e) (ap (λ (l : List ℕ). a ∷ l) (range_append (a + 1) m n))
 
--- one more at the end
-pub range_more : (a n : ℕ) → range a (suc n) ≡ range a n ++ ((a + n) ∷ [])
-unfolding range
-range_more a n = ap (range a) (sym (add-one n)) ∙ range_append a n 1
-
-pub upto_more : (n : ℕ) → range 1 (n + 1) ≡ range 1 n ++ ((n + 1) ∷ [])
-upto_more n = rw (add-one n, range_more 1 n, ← add-one n, add_comm 1 n)
+pub upto_more : (n : ℕ) → range_with_len 1 (n + 1) ≡ range_with_len 1 n ++ ((n + 1) ∷ [])
+upto_more n = rw (range_append 1 n 1, add_comm 1 n)
 
 -- the same numbers, each 1 greater
-pub range_suc : (a n : ℕ) → map suc (range a n) ≡ range (suc a) n
-unfolding range
+pub range_suc : (a n : ℕ) → map suc (range_with_len a n) ≡ range_with_len (a + 1) n
 range_suc a zero = refl
-range_suc a (suc n) = ap (λ (l : List ℕ). suc a ∷ l) (range_suc (suc a) n)
+range_suc a (suc n) = ap₂ ◌∷◌ (sym (add-one a)) (range_suc (a + 1) n)
 
 -- the members of a range
-pub mem_range : {x : ℕ} (a n : ℕ) → x ∈ range a n → (a ≤ x) × (x < a + n)
-mem_range a n m = let (i, h, e) = mem_index 0 m in let k : i < n = omega (arith, range_length a n) in omega (arith, range_at a n i 0 k)
+pub mem_range : {x : ℕ} (a n : ℕ) → x ∈ range_with_len a n → (a ≤ x) × (x < a + n)
+mem_range a n m = let (i, h, e) = mem_index 0 m in let k : i < n = omega (arith, length-range_with_len a n) in omega (arith, get_or-range_with_len a n i 0 k)
 
-pub range_mem : {x : ℕ} (a n : ℕ) → a ≤ x → x < a + n → x ∈ range a n
+pub range_mem : {x : ℕ} (a n : ℕ) → a ≤ x → x < a + n → x ∈ range_with_len a n
 range_mem {x} a n h k =
     let l : x - a < n = omega arith in
     let e : a + (x - a) ≡ x = omega arith in
-    subst (λ (y : ℕ). y ∈ range a n) (range_at a n (x - a) 0 l ∙ e) (mem_at (range a n) 0 (omega (arith, range_length a n)))
+    subst (λ (y : ℕ). y ∈ range_with_len a n) (get_or-range_with_len a n (x - a) 0 l ∙ e) (mem_at (range_with_len a n) 0 (omega (arith, length-range_with_len a n)))
 
--- what a map gives for an element, and when two maps are equal; the library has the rest
-module _ {A B : Type 0} (f : A → B) where
-  pub map_at : (xs : List A) (i : ℕ) (d : A) (e : B) → i < length xs → get_or (map f xs) i e ≡ f (get_or xs i d)
-  map_at [] i d e h = absurd (not-suc-le-zero h)
-  map_at (x ∷ xs) zero d e h = refl
-  map_at (x ∷ xs) (suc i) d e h = map_at xs i d e (le_of_suc-le-suc h)
-
+-- when two maps are equal; the library has the rest
 pub map_eq : {A B : Type 0} (f g : A → B) (xs : List A) → ((x : A) → x ∈ xs → f x ≡ g x) → map f xs ≡ map g xs
 map_eq f g [] h = refl
 map_eq f g (x ∷ xs) h = ap₂ ◌∷◌ (h x (here refl)) (map_eq f g xs (λ y m. h y (there m)))
 
--- a table: f at n numbers from a on
-module _ {B : Type 0} (f : ℕ → B) (a n : ℕ) where
-  pub table_length : length (map f (range a n)) ≡ n
-  table_length = length-map (range a n) f ∙ range_length a n
-
-  pub table_at : (i : ℕ) (d : B) → i < n → get_or (map f (range a n)) i d ≡ f (a + i)
-  table_at i d h = map_at f (range a n) i 0 d (omega (arith, range_length a n)) ∙ ap f (range_at a n i 0 h)
-
-  pub is_table : (d : B) (l : List B) → length l ≡ n → ((i : ℕ) → i < n → get_or l i d ≡ f (a + i)) → l ≡ map f (range a n)
-  is_table d l e h = ext_get_or d l (map f (range a n)) (e ∙ sym table_length) (λ i k. let k' : i < n = omega arith in h i k' ∙ sym (table_at i d k'))
-
--- the first i of a table
-pub table_take : {B : Type 0} (f : ℕ → B) (a n i : ℕ) (d : B) → i ≤ n → take i (map f (range a n)) ≡ map f (range a i)
-table_take f a n i d h =
-    is_table f a i d (take i (map f (range a n))) (length-take-le i (map f (range a n)) (omega (arith, table_length f a n)))
-    (λ x l. get_or-take i (map f (range a n)) x d l ∙ table_at f a n x d (omega arith))
-
--- a list is the table of its elements
-pub own_table : {A : Type 0} (l : List A) (d : A) → l ≡ map (λ i. get_or l i d) (range 0 (length l))
-own_table l d = is_table (λ i. get_or l i d) 0 (length l) d l refl (λ i h. rw zero-add)
+-- the list that has f at each number of a range; from 0 on it is the library's `fill_by_all`
+pub is_table : {B : Type 0} (f : ℕ → B) (a n : ℕ) (d : B) (l : List B) → length l ≡ n → ((i : ℕ) → i < n → get_or l i d ≡ f (a + i)) → l ≡ map f (range_with_len a n)
+is_table f a n d l e h =
+    ext_get_or d l (map f (range_with_len a n)) (e ∙ sym (length-map-range_with_len f a n))
+    (λ i k. let k' : i < n = omega arith in h i k' ∙ sym (get_or-map-range_with_len f a n i (a + i) d k' refl))
 
 -- a part: n elements from a on
 module _ {A : Type 0} where

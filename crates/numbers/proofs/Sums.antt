@@ -15,8 +15,7 @@ use lib.ListN.{length, get_or, take, drop, take-append-drop}
 use lib.Seq.{take-suc}
 use borrow.Author.Tests.{eqb-true, ne_eqb}
 use Rattle.numbers.specs.Signed.{◌⁺}
-use Rattle.std.specs.List.{filter}
-use Rattle.numbers.specs.Lists.{range}
+use Rattle.std.specs.List.{filter, range_with_len}
 use Rattle.numbers.specs.Sums.{Σ, Σℤ, greatest}
 use Rattle.numbers.proofs.Signed.{signed, add, ⁺-add, abs_add}
 use Rattle.numbers.proofs.Lists.{◌∈◌, mem_range}
@@ -131,19 +130,19 @@ pub Σ-or : {A : Type 0} (p q : A → Bool) (xs : List A) (f : A → ℕ) → Σ
     by false t c = omega arith
 
 -- the elements by their class, a number: a sum over classes is at most the sum over all
-one_class : (y c a n : ℕ) → Σ (range a n) (λ i. cond (eqb y i) c 0) ≤ c
-unfolding Σ range
+one_class : (y c a n : ℕ) → Σ (range_with_len a n) (λ i. cond (eqb y i) c 0) ≤ c
+unfolding Σ
 one_class y c a zero = omega arith
-one_class y c a (suc n) = by (eqb y a) refl (one_class y c (suc a) n)
+one_class y c a (suc n) = by (eqb y a) refl (one_class y c (a + 1) n)
   where
-    by : (t : Bool) → eqb y a ≡ t → Σ (range (suc a) n) (λ i. cond (eqb y i) c 0) ≤ c → cond t c 0 + Σ (range (suc a) n) (λ i. cond (eqb y i) c 0) ≤ c
+    by : (t : Bool) → eqb y a ≡ t → Σ (range_with_len (a + 1) n) (λ i. cond (eqb y i) c 0) ≤ c → cond t c 0 + Σ (range_with_len (a + 1) n) (λ i. cond (eqb y i) c 0) ≤ c
     by true q h =
-        let past : (i : ℕ) → i ∈ range (suc a) n → cond (eqb y i) c 0 ≡ 0 = λ i m. rw (ne_eqb y i (λ e. omega (arith, eqb-true y a q, mem_range (suc a) n m))) in
-        omega (arith, Σ-zero (range (suc a) n) _ past)
+        let past : (i : ℕ) → i ∈ range_with_len (a + 1) n → cond (eqb y i) c 0 ≡ 0 = λ i m. rw (ne_eqb y i (λ e. omega (arith, eqb-true y a q, mem_range (a + 1) n m))) in
+        omega (arith, Σ-zero (range_with_len (a + 1) n) _ past)
     by false q h = omega arith
 
-pub Σ-classes : {A : Type 0} (g : A → ℕ) (a n : ℕ) (xs : List A) (f : A → ℕ) → Σ (range a n) (λ i. Σ (filter (λ x. eqb (g x) i) xs) f) ≤ Σ xs f
-Σ-classes g a n xs f = simp Σ-keep (rw (Σ-swap (range a n) xs (λ i x. cond (eqb (g x) i) (f x) 0)) (Σ-mono xs _ f (λ x m. one_class (g x) (f x) a n)))
+pub Σ-classes : {A : Type 0} (g : A → ℕ) (a n : ℕ) (xs : List A) (f : A → ℕ) → Σ (range_with_len a n) (λ i. Σ (filter (λ x. eqb (g x) i) xs) f) ≤ Σ xs f
+Σ-classes g a n xs f = simp Σ-keep (rw (Σ-swap (range_with_len a n) xs (λ i x. cond (eqb (g x) i) (f x) 0)) (Σ-mono xs _ f (λ x m. one_class (g x) (f x) a n)))
 
 -- ---- sums of signed numbers
 

@@ -1,10 +1,5 @@
 -- Lists, in the words of document 01. An index counts from 0.
-use Rattle.std.specs.Prelude.{Bool, cond, List, [], ◌∷◌, ℕ, zero, suc, leb}
-
--- count numbers from the first on: first, first + 1, ..
-unfoldable pub range : (first count : ℕ) → List ℕ
-range first zero = []
-range first (suc count) = first ∷ range (suc first) count
+use Rattle.std.specs.Prelude.{Bool, cond, List, [], ◌∷◌, ℕ, suc, leb}
 
 -- the index of the first element that passes a test, or the length where none does
 unfoldable pub first_where : {A : Type 0} → (A → Bool) → List A → ℕ

@@ -7,9 +7,9 @@ use native.Mathlib.Omega.{arith}
 use lib.Dec.{ltb}
 use lib.ListN.{length, get_or}
 use borrow.Author.Tests.{le-leb, le-ltb}
-use Rattle.std.specs.List.{list_any}
-use Rattle.numbers.specs.Lists.{range}
-use Rattle.numbers.proofs.Lists.{table_take, own_table, any_map, none_any}
+use Rattle.std.specs.List.{list_any, range_with_len}
+use Rattle.std.proofs.lemmas.List.FromFn.{take-map-range_with_len, fill_by_all}
+use Rattle.numbers.proofs.Lists.{any_map, none_any}
 use Rattle.methodology.specs.declared.Refusal.TheVariants.{OutOfTurn, BadOpening}
 use Rattle.methodology.specs.declared.Status.{Status}
 use Rattle.methodology.specs.declared.Status.TheVariants.{Fresh, Open, Closed}
@@ -29,7 +29,7 @@ use Rattle.period.proofs.Sizing.{Admits, passes_all, reported_few, share_few}
 -- an opening
 pub groups_back : (o : Opening) → length o.groups ≡ o.n → o.n ≤ 32 → (held_by (opened_period o)).groups ≡ o.groups
 groups_back o long few =
-    table_take (λ i. get_or o.groups i 0) 0 32 o.n 0 few ∙ sym (rw long at (own_table o.groups 0))
+    take-map-range_with_len (λ i. get_or o.groups i 0) 0 32 o.n few ∙ sym (fill_by_all _ o.groups o.n 0 long (λ i h. refl))
 
 -- row 1 lets it pass
 opening_good : (p : Period) (o : Opening) → opening_row p o ≡ clear → bad_opening o ≡ false
@@ -50,8 +50,10 @@ module _ (p : Period) (d : DayInput) {room : ℕ} (s : Admits p d room) (positiv
   sums_few : list_any (ltb ((p.accrued.days + 1) * scale)) (sized_period p d).accrued.sums ≡ false
   sums_few =
       let r = s.in_range_lem in
-      any_map (ltb ((p.accrued.days + 1) * scale)) (λ i. get_or p.accrued.sums i 0 + share_at p d i) (range 0 32)
-      ∙ none_any _ (range 0 32) (λ i m. le-ltb ((p.accrued.days + 1) * scale) _ (omega (arith, r.sums i, share_few p d positive i)))
+      let most = (p.accrued.days + 1) * scale in
+      let sum : ℕ → ℕ = λ i. get_or p.accrued.sums i 0 + share_at p d i in
+      any_map (ltb most) sum (range_with_len 0 32)
+      ∙ none_any (λ i. ltb most (sum i)) (range_with_len 0 32) (λ i m. le-ltb most _ (omega (arith, r.sums i, share_few p d positive i)))
 
   pub sized_in_range : in_range (sized_period p d) ≡ true
   unfolding in_range

@@ -10,10 +10,11 @@ use native.Mathlib.Omega.{arith}
 use lib.Dec.{ltb}
 use lib.ListN.{length, get_or, replicate}
 use borrow.Author.Tests.{lt-ltb}
-use Rattle.numbers.specs.Lists.{range}
 use Rattle.numbers.specs.Sums.{Σ, greatest}
-use Rattle.numbers.proofs.Lists.{mem_range, range_suc, map_eq, table_at, table_take}
+use Rattle.std.proofs.lemmas.List.FromFn.{get_or-map-range_with_len, take-map-range_with_len}
+use Rattle.numbers.proofs.Lists.{mem_range, range_suc, map_eq}
 use Rattle.std.specs.Prelude.{Ok, Err}
+use Rattle.std.specs.List.{range_with_len}
 use Rattle.methodology.specs.declared.Opening.{Opening}
 use Rattle.methodology.specs.Account.{with_groups, DayInput, Account, members, accounts}
 use Rattle.methodology.specs.Member.{loss}
@@ -35,7 +36,7 @@ use Rattle.period.proofs.Sizing.{passes_all}
 use Rattle.period.proofs.Reach.{opening_passed, groups_back, status_counts}
 
 pub starts : Follows start fresh_period
-unfolding period_of highest greatest range
+unfolding period_of highest greatest
 starts = record { is = refl; reached = fresh; good = record { groups_long = refl; members_few = omega arith; counted = tt } }
 
 held_is : (g : Register) → Good g → held_by (period_of g) ≡ g.held
@@ -48,9 +49,9 @@ sums_are : (g : Register) → Good g → sums_held (period_of g) ≡ map (sum_of
 unfolding period_of
 sums_are g q =
     let f = sum_of_shares g.held g.days in
-    table_take (sum_at g.held g.days) 0 32 g.held.n 0 q.members_few
-    ∙ map_eq _ (λ i. f (suc i)) (range 0 g.held.n) (λ i m. rw (lt-ltb i g.held.n (omega (arith, (mem_range 0 g.held.n m).1))) (ap f (add-one i)))
-    ∙ sym (map-map f suc (range 0 g.held.n))
+    take-map-range_with_len (sum_at g.held g.days) 0 32 g.held.n q.members_few
+    ∙ map_eq _ (λ i. f (suc i)) (range_with_len 0 g.held.n) (λ i m. rw (lt-ltb i g.held.n (omega (arith, (mem_range 0 g.held.n m).1))) (ap f (add-one i)))
+    ∙ sym (map-map f suc (range_with_len 0 g.held.n))
     ∙ ap (map f) (range_suc 0 g.held.n)
 
 -- ---- one call, by what the refusal table says: a refused call leaves all as it was, an accepted one leads the register and the period on
@@ -94,9 +95,9 @@ open_alike f = status_counts f.reached ∙ ap (λ (p : Period). is_open p.status
 
 -- ---- opening
 
-no_sums : (o : Opening) → replicate 32 0 ≡ map (sum_at o []) (range 0 32)
-unfolding sum_of_shares Σ range
-no_sums o = map_eq (λ i. 0) (sum_at o []) (range 0 32) (λ i m. by (ltb i o.n))
+no_sums : (o : Opening) → replicate 32 0 ≡ map (sum_at o []) (range_with_len 0 32)
+unfolding sum_of_shares Σ
+no_sums o = map_eq (λ i. 0) (sum_at o []) (range_with_len 0 32) (λ i m. by (ltb i o.n))
   where
     by : (b : Bool) → ◌≡◌ {A = ℕ} 0 (cond b 0 0)
     by true = refl
@@ -159,11 +160,12 @@ module _ (g : Register) (q : Good g) (d : DayInput) where
   abbrev share_of : Opening → (i : ℕ) → ℕ
   share_of o i = cond (ltb i g.held.n) (share (loss g.held.k accts (i + 1)) (total o accts)) 0
 
-  more_sums : map (λ i. get_or (map (sum_at g.held g.days) (range 0 32)) i 0 + share_of g.held i) (range 0 32)
-      ≡ map (sum_at g.held (kept ∷ g.days)) (range 0 32)
+  more_sums : map (λ i. get_or (map (sum_at g.held g.days) (range_with_len 0 32)) i 0 + share_of g.held i) (range_with_len 0 32)
+      ≡ map (sum_at g.held (kept ∷ g.days)) (range_with_len 0 32)
   unfolding sum_of_shares Σ
   more_sums =
-      map_eq _ _ (range 0 32) (λ i m. rw (table_at (sum_at g.held g.days) 0 32 i 0 (omega (arith, (mem_range 0 32 m).1)), zero-add i) (added (ltb i g.held.n) _ _))
+      map_eq (λ i. get_or (map (sum_at g.held g.days) (range_with_len 0 32)) i 0 + share_of g.held i) (sum_at g.held (kept ∷ g.days)) (range_with_len 0 32)
+      (λ i m. rw (get_or-map-range_with_len (sum_at g.held g.days) 0 32 i i 0 (omega (arith, (mem_range 0 32 m).1)) (zero-add i)) (added (ltb i g.held.n) _ _))
 
   -- what it reports: M of the days before, or its own where that is greater
   reported_is : reported_by (period_of g) d ≡ reported_max_eul g.held (kept ∷ g.days)
@@ -177,7 +179,7 @@ module _ (g : Register) (q : Good g) (d : DayInput) where
       ap (with_accrued (period_of g))
       (by_fields refl (add-one (length g.days))
       (reported_is ∙ reported_is_m g.held (kept ∷ g.days))
-      (ap (λ (o : Opening). map (λ i. get_or (map (sum_at g.held g.days) (range 0 32)) i 0 + share_of o i) (range 0 32)) (held_is g q) ∙ more_sums))
+      (ap (λ (o : Opening). map (λ i. get_or (map (sum_at g.held g.days) (range_with_len 0 32)) i 0 + share_of o i) (range_with_len 0 32)) (held_is g q) ∙ more_sums))
 
   sized_good : (room : ℕ) → 0 < total (held_by (period_of g)) (accounts_brought (period_of g) d) → Good (accept g (Call.day d room))
   unfolding accept period_of

@@ -9,8 +9,7 @@ use lib.Dec.{ltb}
 use lib.ListN.{length, get_or, take, length-take}
 use lib.Seq.{get_or-take}
 use borrow.Author.Tests.{ltb-true, lt-ltb}
-use Rattle.std.specs.List.{AllByRecursion}
-use Rattle.numbers.specs.Lists.{range}
+use Rattle.std.specs.List.{AllByRecursion, range_with_len}
 use Rattle.numbers.proofs.Lists.{◌∈◌, by_index, first_before, map_eq, range_mem}
 use Rattle.methodology.specs.Account.{DayInput, Account}
 use Rattle.methodology.specs.Member.{loss}
@@ -148,4 +147,4 @@ module _ {p : Period} {d : DayInput} {room : ℕ} (s : Admits p d room) {r : Fig
 
     -- the sums that take its shares in are those that the accounts give
     pub sums_are : {sums : List ℕ} → sums ≡ with_shares p.accrued.sums p.held.n out → sums ≡ (sized_period p d).accrued.sums
-    sums_are e = e ∙ rw out_is (map_eq _ _ (range 0 32) (λ i m. ap (λ (x : ℕ). get_or p.accrued.sums i 0 + x) (share_at_lem p d Max i)))
+    sums_are e = e ∙ rw out_is (map_eq _ _ (range_with_len 0 32) (λ i m. ap (λ (x : ℕ). get_or p.accrued.sums i 0 + x) (share_at_lem p d Max i)))

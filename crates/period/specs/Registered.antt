@@ -1,6 +1,6 @@
 -- The period that calls have left, field by field from what the register holds after the same calls.
 use Rattle.std.specs.Prelude.{cond, List, map, ℕ, ◌+◌, ltb, length}
-use Rattle.numbers.specs.Lists.{range}
+use Rattle.std.specs.List.{range_with_len}
 use Rattle.methodology.specs.declared.Opening.{Opening}
 use Rattle.methodology.specs.Contribution.{KeptDay, highest, sum_of_shares}
 use Rattle.methodology.specs.Register.{Register, last_number}
@@ -19,7 +19,7 @@ accrued_over o days =
       last = last_number days;
       days = length days;
       highest = highest o days;
-      sums = map (sum_at o days) (range 0 32);
+      sums = map (sum_at o days) (range_with_len 0 32);
     }
 
 unfoldable pub period_of : Register → Period

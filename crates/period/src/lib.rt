@@ -2,8 +2,7 @@
 #![tactic(auto)]
 
 ghost use Rattle.std.specs.Prelude.{◌≡◌, map, ◌≤◌, ltb, length, get_or};
-ghost use Rattle.std.specs.List.{list_any};
-ghost use Rattle.numbers.specs.Lists.{range};
+ghost use Rattle.std.specs.List.{list_any, range_with_len};
 ghost use Rattle.methodology.specs.Brought.{day_brought};
 ghost use Rattle.methodology.specs.Refusals.{is_open};
 ghost use Rattle.period.specs.Reading.{brought};
@@ -61,7 +60,7 @@ impl Accrued {
 // Groups in 32 places, with 0 past the last.
 fn group_places(groups: &[u64]) -> [u64; 32]
     requires { length groups.now ≤ 32 }
-    ensures { result ≡ map (λ i. get_or groups.now i 0) (range 0 32) }
+    ensures { result ≡ map (λ i. get_or groups.now i 0) (range_with_len 0 32) }
 {
     let mut all = [0; 32];
     all[..groups.len()].copy_from_slice(groups);

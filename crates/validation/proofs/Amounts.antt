@@ -12,7 +12,8 @@ use Rattle.std.specs.List.{list_any}
 use Rattle.std.proofs.lemmas.Bool.Decides.{nat_tests}
 use Rattle.std.proofs.lemmas.Int.{ints}
 use Rattle.numbers.specs.Lists.{first_where}
-use Rattle.numbers.proofs.Lists.{table_at, first_more, first_stop, first_end}
+use Rattle.std.proofs.lemmas.List.FromFn.{get_or-map-range_with_len}
+use Rattle.numbers.proofs.Lists.{first_more, first_stop, first_end}
 use Rattle.methodology.specs.Account.{DayInput, account_at, accounts}
 use Rattle.methodology.specs.Refusals.{limit, outside, npv_outside, bad_amount}
 use Rattle.methodology.proofs.RowLimits.{accounts_long}
@@ -26,7 +27,7 @@ module _ (k : ℕ) (d : DayInput) (i : ℕ) where
   -- the account at an index of a day, and its tests
   pub accounts_at : i < length d.headings → get_or (accounts k d) i none ≡ account_at k d i
   unfolding accounts
-  accounts_at l = table_at (account_at k d) 0 (length d.headings) i none l ∙ rw zero-add
+  accounts_at l = get_or-map-range_with_len (account_at k d) 0 (length d.headings) i i none l (zero-add i)
 
   pub bad_amount_at : i < length d.headings → bad_amount (get_or (accounts k d) i none)
       ≡ (list_any npv_outside (take (k + 1) (drop (i * (k + 1)) d.npvs))

@@ -1,6 +1,6 @@
 -- How the program holds what calls bring: an opening, and a day's slices with what rows 4 to 6 of the refusal table leave of them.
 use Rattle.std.specs.Prelude.{◌≡◌, List, [], map, ℕ, suc, ◌+◌, ◌*◌, ◌≤◌, ◌<◌, ℤ, pos, nat_abs, length, get_or, take}
-use Rattle.numbers.specs.Lists.{range}
+use Rattle.std.specs.List.{range_with_len}
 use Rattle.methodology.specs.declared.Opening.{Opening}
 use Rattle.methodology.specs.declared.Heading.{Heading}
 use Rattle.methodology.specs.Account.{with_groups, Account, nobody, kind_u}
@@ -8,7 +8,7 @@ use Rattle.methodology.specs.Refusals.{limit}
 
 -- An opening as a period keeps it, with its groups in 32 places, from a list of them, and back.
 abbrev pub in_places : Opening → Opening
-in_places o = with_groups o (map (λ i. get_or o.groups i 0) (range 0 32))
+in_places o = with_groups o (map (λ i. get_or o.groups i 0) (range_with_len 0 32))
 
 abbrev pub listed : Opening → Opening
 listed o = with_groups o (take o.n o.groups)

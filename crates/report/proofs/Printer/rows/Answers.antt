@@ -4,13 +4,12 @@ use Prim.Native.Nat.{◌-◌, ◌*◌}
 use native.Mathlib.Omega.{arith}
 use lib.ListN.{length, drop, length-drop}
 use lib.Seq.{take_all}
-use Rattle.numbers.specs.Lists.{range}
 use Rattle.methodology.specs.Text.{rows}
 use Rattle.report.proofs.Laws.{prints_none, prints_row_more}
 use Rattle.report.proofs.Printer.rows.Goals as goal
 
 pub loop-m-init : goal.loop-m-init
-unfolding rows range flat_map
+unfolding rows flat_map
 loop-m-init c = prints_none c.args.self.now
 
 pub loop-m-preserved : goal.loop-m-preserved
