@@ -65,13 +65,13 @@ SAME_TYPE = [names.split() for names in (
 # Their arguments may change places.
 COMMUTE = ("eqb", "max", "same")
 # Which argument of these is a list, to be cut short.
-OVER_A_LIST = {"Σ": 1, "Σℤ": 1, "Σᶠ": 1, "greatest": 1, "list_any": 2, "filter": 2, "map": 2, "flat_map": 2, "first_where": 2}
+OVER_A_LIST = {"Σ": 1, "Σℤ": 1, "Σᶠ": 1, "greatest": 1, "list_any": 2, "filter": 2, "map": 2, "flat_map": 2, "position_or_len": 2}
 # Where a name that stands in another's place is defined, if its file does not have it.
 FROM = {
     **dict.fromkeys((
         "leb", "ltb", "eqb", "min", "max", "suc", "Some", "◌+◌", "◌-◌", "◌*◌", "◌/◌", "◌%◌", "negsuc", "pos", "◌-ℤ◌", "◌+ℤ◌", "cond", "not",
         "◌||◌", "◌&&◌", "false", "true", "length", "take", "drop", "map", "◌++◌"), "Rattle.std.specs.Prelude"),
-    "range": "Rattle.numbers.specs.Lists", "Σℤ": "Rattle.numbers.specs.Sums", "Σ": "Rattle.numbers.specs.Sums",
+    "range_with_len": "Rattle.std.specs.List", "Σℤ": "Rattle.numbers.specs.Sums", "Σ": "Rattle.numbers.specs.Sums",
     "greatest": "Rattle.numbers.specs.Sums", "◌⁺": "Rattle.numbers.specs.Signed", "◌⁻": "Rattle.numbers.specs.Signed",
     "round_div": "Rattle.numbers.specs.Rounding", "ceil_div": "Rattle.numbers.specs.Rounding",
     "with_groups": "Rattle.methodology.specs.Account", "dailies": "Rattle.methodology.specs.Day",
@@ -143,7 +143,7 @@ Member.half_of_clients | ceil_div (Σ (filter is_client accts) (λ a. eul a ⁺)
 Member.half_of_clients | ceil_div (Σ (filter is_client accts) (λ a. eul a ⁺)) 2 | Σ (filter is_client accts) (λ a. eul a ⁺)
 Member.two_largest_of_r | take 2 (descending | drop 0 (descending
 Member.part_c | (λ a. eul a ⁺) | (λ a. eul a ⁻)
-Member.loss | member_own k accts m ⁺ | greatest (range 1 k) (λ j. member_under accts m j ⁺)
+Member.loss | member_own k accts m ⁺ | greatest (range_with_len 1 k) (λ j. member_under accts m j ⁺)
 Refusals.member_skipped | ltb (prev.member + 1) h.member | ltb 0 prev.member && ltb (prev.member + 1) h.member
 Refusals.first_bad_heading | suc (first_bad_heading n h hs) | suc (first_bad_heading n prev hs)
 Refusals.bad_amount | list_any npv_outside a.npvs | list_any npv_outside (drop 1 a.npvs)
@@ -192,7 +192,7 @@ Text.read_line | cond (same l (bytes "end")) | cond (same (take 3 l) (bytes "end
 Text.sized | (day after) | (day g)
 Text.totals | ∷ column_sum 5 n out 4 ∷ [] | ∷ []
 Text.column_sum | Σ (members n) | Σ (members (n - 1))
-Text.column_sum | Σ (members n) | Σ (range 2 (n - 1))
+Text.column_sum | Σ (members n) | Σ (range_with_len 2 (n - 1))
 Text.day_lines | (totals n out) | (n ∷ totals n out)
 Text.day_lines | (totals n out) | (totals n (take 5 out))
 Text.day_lines | (totals n out) | (column_sum 5 n out 0 ∷ 1000000000000 ∷ drop 2 (totals n out))

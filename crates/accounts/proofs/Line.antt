@@ -9,7 +9,7 @@ use lib.Dec.{eqb, ltb}
 use lib.ListN.{length, length-drop}
 use lib.Seq.{length-take-le}
 use borrow.Author.Tests.{ltb-true, eq-eqb, ne_eqb, lt-ltb, le-ltb}
-use Rattle.numbers.proofs.Lists.{first_le}
+use Rattle.std.proofs.lemmas.List.Sums.{prefix_len-le-length}
 use Rattle.methodology.specs.Account.{DayInput}
 use Rattle.methodology.specs.Register.{Call, Register, refusal}
 use Rattle.methodology.specs.declared.Refusal.TheVariants.{BadLine}
@@ -26,7 +26,7 @@ line_length {A} reading s x e = by (has LF s) refl e
     by : (t : Bool) → has LF s ≡ t → cond (t && not (bad_bytes (before LF s))) (reading (before LF s)) None ≡ Some x
         → length s ≡ length (before LF s) + 1 + length (after LF s)
     by true h e =
-        omega (arith, ltb-true (index_of LF s) (length s) h, length-take-le (index_of LF s) s (first_le (λ x. eqb x LF) s), length-drop {A = ℕ})
+        omega (arith, ltb-true (index_of LF s) (length s) h, length-take-le (index_of LF s) s (prefix_len-le-length _ s), length-drop {A = ℕ})
     by false h e = cc
 
 pub line_shorter : {A : Type 0} (reading : List ℕ → Option A) (s : List ℕ) (x : A) → line_read reading s ≡ Some x → length (after LF s) < length s

@@ -1,18 +1,18 @@
 -- The accounts that a day's slices hold: a part of the slices holds those between two indices. Members rise, so where none before m is left,
 -- the accounts of m are the first, and those of all members after it are the others.
-use mathlib.Core.Path.{◌≡◌, refl, ap, subst}
-use mathlib.Core.Bool.{Bool, true, false, not}
+use mathlib.Core.Path.{◌≡◌, ap, subst}
+use mathlib.Core.Bool.{Bool, not}
 use mathlib.Core.List.{List}
 use Prim.Native.Nat.{ℕ, ◌+◌, ◌-◌, ◌*◌, ◌≤◌, ◌<◌}
 use native.Mathlib.Omega.{arith}
-use lib.Dec.{eqb, leb, ltb}
+use lib.Dec.{eqb, leb}
 use lib.ListN.{length, get_or}
-use borrow.Author.Tests.{eq-eqb, ne_eqb, eqb-true, eqb-false, leb-true, le-leb, lt-leb, ltb-false}
+use borrow.Author.Tests.{eq-eqb, ne_eqb, eqb-true, eqb-false, leb-true, le-leb, lt-leb}
 use Rattle.std.specs.Prelude.{Option, unwrap_or}
 use Rattle.std.specs.List.{between, position, position_or_len}
 use Rattle.std.proofs.lemmas.Bool.{not-true, not-false}
 use Rattle.std.proofs.lemmas.List.Sums.{prefix_len-le-length, fails_before_first, passes_at_first}
-use Rattle.numbers.proofs.Lists.{◌∈◌, by_steps, mem_at, mem_keep, keep_part}
+use Rattle.numbers.proofs.Lists.{◌∈◌, by_steps, mem_at, mem_keep, keep_part, first_or_all}
 use Rattle.methodology.specs.declared.Heading.{Heading}
 use Rattle.methodology.specs.Account.{DayInput, Account, account_at, accounts, nobody}
 use Rattle.methodology.specs.Member.{accounts_of}
@@ -47,14 +47,6 @@ rising_le : {headings : List Heading} → Rising headings → (i j : ℕ) → i 
     → (get_or headings i nobody).member ≤ (get_or headings j nobody).member
 rising_le {headings} r i j h k =
     by_steps (λ n. (get_or headings i nobody).member ≤ (get_or headings n nobody).member) i j h (omega arith) (λ n l m f. omega (arith, r.next n (omega arith)))
-
--- the first that passes a test, or the end where none does
-first_or_all : {A : Type 0} (p : A → Bool) (xs : List A) → unwrap_or (position p xs) (length xs) ≡ position_or_len p xs
-first_or_all p xs = by (ltb (position_or_len p xs) (length xs)) refl
-  where
-    by : (t : Bool) → ltb (position_or_len p xs) (length xs) ≡ t → unwrap_or (position p xs) (length xs) ≡ position_or_len p xs
-    by true e = rw e
-    by false e = rw e (omega (arith, ltb-false _ _ e, prefix_len-le-length (λ x. not (p x)) xs))
 
 -- of another member than m
 abbrev pub other : (m : ℕ) → Heading → Bool

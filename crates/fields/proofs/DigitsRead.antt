@@ -6,7 +6,6 @@ use Rattle.std.proofs.lemmas.Option.{none-some}
 use native.Mathlib.Nat.{pow-le-pow_right}
 use lib.ListN.{get_or-eq_default}
 use Rattle.std.specs.List.{list_any}
-use Rattle.numbers.specs.Lists.{first_where}
 use Rattle.numbers.proofs.Tests.{neither}
 use Rattle.methodology.specs.Refusals.{outside}
 use Rattle.methodology.specs.Text.{is_digit, value_from, number_of}
@@ -176,7 +175,7 @@ module _ (s : List ℕ) (end : ℕ) where
           no_number (number_zeros F (first (omega arith) ∙ z) (omega (arith, front_length s)))
 
       pub run_good : (i ≡ 0 → ⊥) → (get_or s 0 0 ≡ 48 → i ≤ 1) → number_at end s ≡ Some v
-      unfolding value_from first_where
+      unfolding value_from
       run_good n z =
           let l : 0 < size s = omega (arith, size_is) in
           let none_left : front (drop i s) ≡ [] = ap (λ (m : ℕ). take m (drop i s)) (size_stop s i h (ap stops at ∙ t)) in

@@ -1,12 +1,12 @@
 -- A signed number: the number that a text begins with, or the one after its minus.
-use Rattle.std.proofs.Common.{◌≡◌, ℕ, suc, ◌<◌, Bool, true, false, cond, ◌&&◌, eqb, List, [], ◌∷◌, length, ◌+◌, get_or, take, drop, pos, ◌-ℤ◌, neg_ℤ, sym, refl, ap, ◌∙◌, arith, w64, SFits, to_z, of_z, ne_eqb, eqb-true}
+use Rattle.std.proofs.Common.{◌≡◌, ℕ, suc, ◌<◌, Bool, true, false, cond, ◌&&◌, eqb, List, [], ◌∷◌, length, ◌+◌, take, drop, pos, ◌-ℤ◌, neg_ℤ, sym, refl, ap, ◌∙◌, arith, w64, SFits, to_z, of_z, ne_eqb, eqb-true}
 use mathlib.Core.Bool.{true≢false}
 use Rattle.std.specs.Prelude.{Option, None, Some, MatchOption, unwrap_or}
 use Rattle.std.specs.Borrow.{Bor}
 use Rattle.std.specs.Cmp.Lexicographic.{pointwise}
 use lib.IntN.{+ℤ_idl}
 use mir.ValLaws.{to_z_pos}
-use Rattle.numbers.specs.Lists.{first_where}
+use Rattle.numbers.proofs.Lists.{first_cons}
 use Rattle.numbers.proofs.Signed.{abs_is, neg, fits_abs, back}
 use Rattle.methodology.specs.Text.{number_of, below0, above0, signed_of}
 use Rattle.fields.specs.Fields.{stops, size, front, past, ender, number_at, value_of, value_at}
@@ -53,21 +53,19 @@ below_when false n = refl
 
 -- a field that begins with no minus
 plain_front : (x : ℕ) (s : List ℕ) → eqb x 45 ≡ false → signed_of (front (x ∷ s)) ≡ above0 (number_of (front (x ∷ s)))
-unfolding signed_of first_where
-plain_front x s e = by (stops x)
+unfolding signed_of
+plain_front x s e = by (stops x) refl
   where
-    by : (t : Bool) → cond (eqb (get_or (take (cond t 0 (suc (size s))) (x ∷ s)) 0 0) 45) (below0 (number_of (drop 1 (take (cond t 0 (suc (size s))) (x ∷ s))))) (above0 (number_of (take (cond t 0 (suc (size s))) (x ∷ s))))
-        ≡ above0 (number_of (take (cond t 0 (suc (size s))) (x ∷ s)))
-    by true = refl
-    by false = rw e
+    by : (t : Bool) → stops x ≡ t → signed_of (front (x ∷ s)) ≡ above0 (number_of (front (x ∷ s)))
+    by true k = rw k
+    by false k = rw (first_cons stops x s k, e)
 
 past_minus : (s : List ℕ) → past (45 ∷ s) ≡ past s
-unfolding first_where
-past_minus s = let z : suc (size s) + 1 ≡ suc (size s + 1) = omega arith in rw z
+past_minus s = let z : 1 + size s + 1 ≡ suc (size s + 1) = omega arith in rw z
 
 module _ (end : ℕ) where
   plain_signed : (s : List ℕ) → minus s ≡ false → value_at false end s ≡ above0 (number_at end s)
-  unfolding value_at value_of number_at signed_of first_where
+  unfolding value_at value_of number_at signed_of
   plain_signed [] e = above_when (eqb 0 end) (number_of [])
   plain_signed (x ∷ s) e = rw (plain_front x s (begins (eqb x 45) e)) (above_when (eqb (ender (x ∷ s)) end) (number_of (front (x ∷ s))))
     where
@@ -76,9 +74,9 @@ module _ (end : ℕ) where
       begins false e = refl
 
   minus_signed : (s : List ℕ) → minus s ≡ true → (value_at false end s ≡ below0 (number_at end (drop 1 s))) × (past s ≡ past (drop 1 s))
-  unfolding value_at value_of number_at signed_of first_where
+  unfolding value_at value_of number_at signed_of
   minus_signed [] e = absurd (true≢false (sym e))
-  minus_signed (x ∷ s) e = rw (eqb-true x 45 (begins (eqb x 45) e)) (below_when (eqb (ender s) end) (number_of (front s)), past_minus s)
+  minus_signed (x ∷ s) e = rw (eqb-true x 45 (begins (eqb x 45) e)) (rw (first_cons stops 45 s refl) (below_when (eqb (ender s) end) (number_of (front s))), past_minus s)
     where
       begins : (t : Bool) → (t && true) ≡ true → t ≡ true
       begins true e = refl

@@ -1,10 +1,9 @@
 -- A line's fields, read one after another from the text where they stand: neither the line nor a field is cut out first.
 use Rattle.std.specs.Prelude.{◌≡◌, ℕ, zero, suc, ◌+◌, ◌^◌, ◌<◌, ◌≤◌, Bool, true, false, cond, not, ◌||◌, ◌⊎◌, List, [], length, take, drop, ℤ, pos, ◌==◌, eqb, nat_lt, slice_index, MatchOption}
 use Rattle.std.specs.Prelude.{Option, None, Some}
-use Rattle.std.specs.List.{list_any}
+use Rattle.std.specs.List.{list_any, position_or_len}
 use Rattle.std.specs.Option.{option_eq}
 use Rattle.std.specs.Borrow.{Bor}
-use Rattle.numbers.specs.Lists.{first_where}
 use Rattle.methodology.specs.Text.{tab, LF, is_digit, value_from, number_of, signed_of, kind_of, also}
 
 -- ---- the field at the front of a text
@@ -19,7 +18,7 @@ not_digit b = not (is_digit b)
 
 -- how many bytes it has
 abbrev pub size : List ℕ → ℕ
-size s = first_where stops s
+size s = position_or_len stops s
 
 abbrev pub front : List ℕ → List ℕ
 front s = take (size s) s

@@ -8,11 +8,11 @@ use native.Mathlib.Omega.{arith}
 use lib.Dec.{eqb}
 use lib.ListN.{length, get_or}
 use borrow.Author.Tests.{eqb-true, lt-ltb}
-use Rattle.numbers.specs.Lists.{first_where}
+use Rattle.numbers.proofs.Lists.{first_cons}
 use Rattle.methodology.specs.Text.{LF, tab, onto, split, fields}
 use Rattle.methodology.specs.Lines.{index_of, has, before}
 use Rattle.methodology.proofs.Splits.{ltb_suc}
-use Rattle.fields.specs.Fields.{size, front, ender, past}
+use Rattle.fields.specs.Fields.{stops, size, front, ender, past}
 
 -- the fields of the line at the front of a text
 abbrev pub line_fields : List ℕ → List (List ℕ)
@@ -48,25 +48,24 @@ pub data Ends (s : List ℕ) : Type 0 where
 -- ---- one byte more at the front
 
 tab_front : (s : List ℕ) → Tab (tab ∷ s)
-unfolding first_where split
-tab_front s = record { ends = refl; parts = refl; lined = ltb_suc (index_of LF s) (length s); length_is = omega arith; word_is = refl }
+unfolding split
+tab_front s =
+    let next = first_cons (λ x. eqb x LF) tab s refl in
+    record { ends = refl; parts = rw next; lined = rw next (ltb_suc (index_of LF s) (length s)); length_is = omega arith; word_is = refl }
 
 lf_front : (s : List ℕ) → Last (LF ∷ s)
-unfolding first_where split
-lf_front s = record { ends = refl; parts = refl; lined = lt-ltb 0 (suc (length s)) (omega arith); length_is = refl; word_is = refl }
+unfolding split
+lf_front s = record { ends = refl; parts = refl; lined = lt-ltb 0 (suc (length s)) (omega arith); length_is = refl; word_is = rw (first_cons (λ x. eqb x tab) LF s refl) }
 
 module _ (x : ℕ) (s : List ℕ) (t : eqb x tab ≡ false) (l : eqb x LF ≡ false) where
   size_more : size (x ∷ s) ≡ suc (size s)
-  unfolding first_where
-  size_more = rw (t, l)
+  size_more = first_cons stops x s (rw (t, l))
 
   index_more : index_of LF (x ∷ s) ≡ suc (index_of LF s)
-  unfolding first_where
-  index_more = rw l
+  index_more = first_cons (λ y. eqb y LF) x s l
 
   word_more : before tab (x ∷ s) ≡ x ∷ before tab s
-  unfolding first_where
-  word_more = rw t
+  word_more = rw (first_cons (λ y. eqb y tab) x s t)
 
   lined_more : has LF (x ∷ s) ≡ has LF s
   lined_more = rw index_more (ltb_suc (index_of LF s) (length s))
@@ -110,6 +109,5 @@ ends_step false true x s t k e = rw (eqb-true x LF k) (at_lf (lf_front s))
 ends_step false false x s t k e = ends_more x s t k e
 
 pub ends : (s : List ℕ) → Ends s
-unfolding first_where
 ends [] = nowhere (record { ends = refl; lined = refl; word_is = refl })
 ends (x ∷ s) = ends_step (eqb x tab) (eqb x LF) x s refl refl (ends s)

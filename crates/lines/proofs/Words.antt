@@ -12,13 +12,14 @@ use lib.ListN.{length, get_or, drop, length-drop}
 use lib.Seq.{length-take-le}
 use borrow.Author.Tests.{eq-eqb, ne_eqb, lt-ltb, le-ltb, ltb-false, ltb-true}
 use Rattle.std.specs.List.{list_any}
+use Rattle.std.proofs.lemmas.List.Sums.{prefix_len-le-length}
 use Rattle.numbers.proofs.Tests.{neither}
-use Rattle.numbers.proofs.Lists.{mem_at, at_any, any_false, none_any, first_le}
+use Rattle.numbers.proofs.Lists.{mem_at, at_any, any_false, none_any}
 use Rattle.methodology.specs.Refusals.{outside}
 use Rattle.methodology.specs.Text.{LF, tab, same, fields, bad_bytes}
 use Rattle.methodology.specs.Lines.{index_of, has, before, after, line_read}
 use Rattle.methodology.proofs.Splits.{split_first, same_eq}
-use Rattle.fields.specs.Fields.{stops, size, front, past, row_at, past_row}
+use Rattle.fields.specs.Fields.{size, front, past, row_at, past_row}
 use Rattle.lines.specs.Forms.{not_letters, values_of, row_after, line_row}
 use Rattle.lines.proofs.Ends.{line_fields, Tab, Last, Ends, at_tab, at_lf, nowhere, ends}
 use Rattle.lines.proofs.RowOfLine.{eqb_suc, row_line, after_tab, past_line, row_lined}
@@ -95,7 +96,7 @@ module _ (word : List ℕ) (letters : not_letters word ≡ false) where
       front_is t = sym t.word_is ∙ word_is
 
       size_is : Tab s → size s ≡ length word
-      size_is t = sym (length-take-le (size s) s (first_le stops s)) ∙ ap length (front_is t)
+      size_is t = sym (length-take-le (size s) s (prefix_len-le-length _ s)) ∙ ap length (front_is t)
 
       short_case : (kind : Option ℕ) (n : ℕ) → length s ≤ length word → Ends s → line_row word kind n s ≡ None
       short_case kind n h (at_tab t) = absurd (let k = size_is t in let l = inside s (size s) tab t.ends (λ z. omega arith) in omega arith)
@@ -133,7 +134,7 @@ module _ (word : List ℕ) (letters : not_letters word ≡ false) where
             by (Some l) q = absurd (true≢false (sym f ∙ in_fields ∙ values_ascii kind 0 (line_fields (past s)) l q))
 
         length_is : length (before LF s) ≡ index_of LF s
-        length_is = length-take-le (index_of LF s) s (first_le (λ x. eqb x LF) s)
+        length_is = length-take-le (index_of LF s) s (prefix_len-le-length _ s)
 
         -- the values of what follows the word, if there are n fields
         abbrev values : (kind : Option ℕ) (n : ℕ) → Option (List ℤ)

@@ -1,7 +1,7 @@
 -- A text's report is that of its first 2,162,688 bytes: they are enough. Line by line, the cut text has the same line as long as an LF ends
 -- it in time; where none does, the line is bad, with or without the bytes further on.
 use mathlib.Core.Path.{◌≡◌, refl, sym, ap, ◌∙◌}
-use mathlib.Core.Bool.{Bool, true, false, cond}
+use mathlib.Core.Bool.{Bool, true, false, not, cond}
 use mathlib.Core.List.{List, [], ◌∷◌, ◌++◌}
 use Prim.Native.Nat.{ℕ, zero, suc, ◌+◌, ◌-◌, ◌≤◌, ◌<◌, min}
 use native.Mathlib.Omega.{arith}
@@ -9,8 +9,9 @@ use lib.Dec.{ltb, eqb}
 use lib.ListN.{length, take, length-drop, length-take}
 use lib.Seq.{take_all, take-take, length-take-le}
 use borrow.Author.Tests.{lt-ltb, ltb-true, ltb-false}
-use Rattle.numbers.specs.Lists.{first_where}
-use Rattle.numbers.proofs.Lists.{drop_take, first_le}
+use Rattle.std.specs.List.{position_or_len}
+use Rattle.std.proofs.lemmas.List.Sums.{prefix_len-le-length}
+use Rattle.numbers.proofs.Lists.{drop_take}
 use Rattle.methodology.specs.declared.Refusal.TheVariants.{BadLine}
 use Rattle.methodology.specs.Text.{LF, same, split, bad_bytes, refused_line, Expected, period, member, day, account, after_end, Read, ends, goes_on, bad, read_line, at_end, followed_by, report_from, report_of}
 use Rattle.methodology.specs.Lines.{index_of, has, before, after}
@@ -20,13 +21,12 @@ use Rattle.methodology.proofs.Enough.{a_line, Enough, EnoughAfter, enough_line, 
 
 -- ---- the line at the front of a text that is cut
 
-first_take : (p : ℕ → Bool) (m : ℕ) (s : List ℕ) → first_where p (take m s) ≡ min m (first_where p s)
-unfolding first_where
+first_take : (p : ℕ → Bool) (m : ℕ) (s : List ℕ) → position_or_len p (take m s) ≡ min m (position_or_len p s)
 first_take p zero s = omega arith
 first_take p (suc m) [] = omega arith
 first_take p (suc m) (x ∷ s) = by (p x) (first_take p m s)
   where
-    by : (t : Bool) → first_where p (take m s) ≡ min m (first_where p s) → cond t 0 (suc (first_where p (take m s))) ≡ min (suc m) (cond t 0 (suc (first_where p s)))
+    by : (t : Bool) → position_or_len p (take m s) ≡ min m (position_or_len p s) → cond (not t) (1 + position_or_len p (take m s)) 0 ≡ min (suc m) (cond (not t) (1 + position_or_len p s) 0)
     by true e = omega arith
     by false e = omega arith
 
@@ -62,7 +62,7 @@ unfolding followed_by bad_bytes
 too_long i s e h = by (has LF s) refl
   where
     long : length (before LF s) ≡ index_of LF s
-    long = length-take-le (index_of LF s) s (first_le (λ x. eqb x LF) s)
+    long = length-take-le (index_of LF s) s (prefix_len-le-length _ s)
 
     by : (t : Bool) → has LF s ≡ t → report_from i (split LF s) e ≡ refused_line BadLine i
     by true k = line_there i s e k ∙ rw (lt-ltb 512 (length (before LF s)) (omega (arith, long)))

@@ -5,14 +5,12 @@ use mathlib.Core.Path.{◌≡◌, refl}
 use mathlib.Core.List.{List, [], ◌∷◌, ◌++◌, map}
 use Prim.Native.Nat.{ℕ, suc, ◌+◌, ◌-◌, ◌*◌, ◌<◌, min}
 use native.Mathlib.Omega.{arith}
-use lib.Dec.{ltb}
 use lib.IntN.{ℤ, pos}
 use lib.ListN.{length, get_or, replicate}
 use Rattle.std.specs.List.{AllByRecursion, range_with_len}
 use Rattle.numbers.specs.Fractions.{Fraction, ◌over◌, Proper, ◌≼◌, ◌≺◌}
-use Rattle.numbers.specs.Lists.{first_where}
 use Rattle.methodology.specs.declared.Opening.{Opening}
-use Rattle.methodology.specs.Account.{DayInput, members, accounts, nobody, heading_at}
+use Rattle.methodology.specs.Account.{DayInput, members, accounts, nobody}
 use Rattle.methodology.specs.Member.{member_under, member_own}
 use Rattle.methodology.specs.Day.{own_max_eul}
 use Rattle.methodology.specs.Contribution.{KeptDay, charge, exact_charge, allowance, shortfall}
@@ -237,11 +235,6 @@ orders = (
   (λ h. omega (arith, h.1.0)),
 )
 
--- Words of the definitions where no answer shows them: a heading of three columns of numbers, and past their end; no element that passes.
-pub words :
-    (heading_at (1 ∷ 2 ∷ []) (3 ∷ 4 ∷ []) (5 ∷ 6 ∷ []) 1 ≡ record { member = 2; number = 4; kind = 6 })
-    × (heading_at (1 ∷ 2 ∷ []) (3 ∷ 4 ∷ []) (5 ∷ 6 ∷ []) 2 ≡ nobody)
-    × (nobody ≡ record { member = 0; number = 0; kind = 0 })
-    × (first_where (ltb 2) (1 ∷ 2 ∷ []) ≡ 2)
-unfolding first_where
-words = (refl, refl, refl, refl)
+-- What no answer shows: the heading before a day's first account.
+pub before_the_first : nobody ≡ record { member = 0; number = 0; kind = 0 }
+before_the_first = refl

@@ -7,7 +7,7 @@ use native.Mathlib.Omega.{arith}
 use lib.Dec.{eqb}
 use lib.ListN.{length}
 use borrow.Author.Tests.{not-true}
-use Rattle.numbers.proofs.Lists.{first_le}
+use Rattle.std.proofs.lemmas.List.Sums.{prefix_len-le-length}
 use Rattle.numbers.proofs.Tests.{neither}
 use Rattle.methodology.specs.declared.Heading.{Heading}
 use Rattle.methodology.specs.declared.Status.{Status}
@@ -94,7 +94,7 @@ account_rows_few : (o : Opening) (d : DayInput) → length d.headings ≤ 256 �
 unfolding account_rows
 account_rows_few o d few =
     when_few (BadHeading _) _ _ (omega (arith, bad_heading_le o.n nobody d.headings))
-    (λ e. when_few (BadAmount _) _ clear (omega (arith, first_le bad_amount (accounts o.k d), accounts_long o.k d)) (λ f. tt))
+    (λ e. when_few (BadAmount _) _ clear (omega (arith, prefix_len-le-length (λ a. not (bad_amount a)) (accounts o.k d), accounts_long o.k d)) (λ f. tt))
 
 pub day_few : (s : Status) (o : Opening) (last : ℕ) (d : DayInput) (room : ℕ) → RowFew (day_refusal s o last d room)
 unfolding day_refusal before_figures day_rows

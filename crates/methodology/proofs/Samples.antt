@@ -4,7 +4,7 @@ use Prim.Native.Nat.{ℕ, suc}
 use lib.IntN.{ℤ, pos, neg_ℤ}
 use lib.ListN.{replicate}
 use Rattle.numbers.specs.Signed.{◌⁺, ◌⁻}
-use Rattle.numbers.specs.Lists.{first_where, insert, descending}
+use Rattle.numbers.specs.Lists.{insert, descending}
 use Rattle.numbers.specs.Sums.{Σ, Σℤ, greatest}
 use Rattle.numbers.specs.Fractions.{Σᶠ}
 use Rattle.numbers.specs.Rounding.{ceil_div, round_div}
@@ -34,7 +34,7 @@ use Rattle.methodology.specs.Register.{Register, Call, opening, day, closing, An
 
 -- Who unfolds this unfolds every definition on its line, so that the examples compute.
 unfoldable pub computed : Unit {0}
-unfolding flat_map first_where insert descending Σ Σℤ greatest Σᶠ ceil_div round_div account_at accounts decrease eul_of eul_under largest_decrease own_eul accounts_of house_eul half_of_clients two_largest_of_r part_b part_c member_eul member_under member_own loss total group_of group_sum own_max_eul share value reserve estimate five dailies reported_max_eul highest sum_of_shares charge raw funded unfunded exact_charge shortfall allowance three contributions total_funded row◌when◌else◌ rows_of◌else◌ bad_opening opening_refusal bad_day_number bad_heading first_bad_heading last_missing bad_amount account_rows day_rows before_figures day_refusal closing_refusal refusal accept step returned written answer buffer
+unfolding flat_map insert descending Σ Σℤ greatest Σᶠ ceil_div round_div account_at accounts decrease eul_of eul_under largest_decrease own_eul accounts_of house_eul half_of_clients two_largest_of_r part_b part_c member_eul member_under member_own loss total group_of group_sum own_max_eul share value reserve estimate five dailies reported_max_eul highest sum_of_shares charge raw funded unfunded exact_charge shortfall allowance three contributions total_funded row◌when◌else◌ rows_of◌else◌ bad_opening opening_refusal bad_day_number bad_heading first_bad_heading last_missing bad_amount account_rows day_rows before_figures day_refusal closing_refusal refusal accept step returned written answer buffer
 computed = tt
 
 -- "Kinds: H (0) house; R (1) [..]; A (2) [..]; U (3) [..]": document 01's numbers, and not the definitions', which the examples hold.

@@ -10,7 +10,6 @@ use lib.Dec.{eqb, ltb}
 use lib.ListN.{length, take, drop}
 use lib.Seq.{take_all}
 use borrow.Author.Tests.{eqb-true, lt-ltb, le-ltb, ltb-true, ltb-false}
-use Rattle.numbers.specs.Lists.{first_where}
 use Rattle.numbers.proofs.Tests.{both}
 use Rattle.methodology.specs.declared.Opening.{Opening}
 use Rattle.methodology.specs.Account.{DayInput}
@@ -28,13 +27,13 @@ ltb_suc a b = by (ltb a b) refl
 
 -- one byte more at the front
 split_step : (t : Bool) (b x : ℕ) (s : List ℕ) → split b s ≡ before b s ∷ cond (has b s) (split b (after b s)) []
-    → (let i = cond t 0 (suc (index_of b s)) in cond t ([] ∷ split b s) (onto x (split b s)) ≡ take i (x ∷ s) ∷ cond (ltb i (suc (length s))) (split b (drop (suc i) (x ∷ s))) [])
+    → (let i = cond (not t) (1 + index_of b s) 0 in cond t ([] ∷ split b s) (onto x (split b s)) ≡ take i (x ∷ s) ∷ cond (ltb i (suc (length s))) (split b (drop (suc i) (x ∷ s))) [])
 unfolding onto
 split_step true b x s e = rw (lt-ltb 0 (suc (length s)) (omega arith))
-split_step false b x s e = rw (ltb_suc (index_of b s) (length s), e)
+split_step false b x s e = let next : 1 + index_of b s ≡ suc (index_of b s) = omega arith in rw (next, ltb_suc (index_of b s) (length s), e)
 
 pub split_first : (b : ℕ) (s : List ℕ) → split b s ≡ before b s ∷ cond (has b s) (split b (after b s)) []
-unfolding split first_where
+unfolding split
 split_first b [] = refl
 split_first b (x ∷ s) = split_step (eqb x b) b x s (split_first b s)
 

@@ -52,10 +52,6 @@ pub record Account : Type 0 where
 abbrev pub nobody : Heading
 nobody = record { member = 0; number = 0; kind = 0 }
 
--- The heading whose fields stand at index i of three lists. Past the end of a list stands 0.
-abbrev pub heading_at : (members numbers kinds : List ℕ) → (i : ℕ) → Heading
-heading_at members numbers kinds i = record { member = get_or members i 0; number = get_or numbers i 0; kind = get_or kinds i 0 }
-
 -- The account at index i of a day. It has k + 1 NPVs: "each account's stress row is handed on as a part of" the one slice. Row 4 of the
 -- refusal table leaves no number of it missing.
 unfoldable pub account_at : (k : ℕ) → DayInput → ℕ → Account

@@ -1,12 +1,12 @@
 -- The line at the front of a text: what `report_from` reads next, where the lines before it are taken away.
 use Rattle.std.specs.Prelude.{Bool, not, ◌&&◌, cond, List, ℕ, suc, ltb, eqb, length, take, drop}
 use Rattle.std.specs.Prelude.{Option, None}
-use Rattle.numbers.specs.Lists.{first_where}
+use Rattle.std.specs.List.{position_or_len}
 use Rattle.methodology.specs.Text.{LF, bytes, same, bad_bytes}
 
 -- the index of the first b, the text's length where there is none
 abbrev pub index_of : (b : ℕ) → (text : List ℕ) → ℕ
-index_of b s = first_where (λ x. eqb x b) s
+index_of b s = position_or_len (λ x. eqb x b) s
 
 -- whether there is a b, the part before the first, and the rest after it
 abbrev pub has : (b : ℕ) → (text : List ℕ) → Bool

@@ -3,8 +3,7 @@
 -- `Refusal` are declared in src/lib.rt.
 use Rattle.std.specs.Prelude.{Bool, true, false, not, ◌&&◌, ◌||◌, cond, List, [], ◌∷◌, ℕ, suc, Result, Ok, Err, ◌+◌, ◌*◌, leb, ltb, eqb, ℤ, pos, neg_ℤ, length}
 use Rattle.std.specs.Int.Signed.{lt_z}
-use Rattle.std.specs.List.{list_any}
-use Rattle.numbers.specs.Lists.{first_where}
+use Rattle.std.specs.List.{list_any, position_or_len}
 use Rattle.methodology.specs.declared.Heading.{Heading}
 use Rattle.methodology.specs.declared.Status.{Status}
 use Rattle.methodology.specs.declared.Status.TheVariants.{Fresh, Open, Closed}
@@ -148,12 +147,12 @@ unfoldable pub bad_amount : Account → Bool
 bad_amount a = list_any npv_outside a.npvs || outside 0 limit a.margin || ltb a.margin a.extra
 
 -- Rows 5 and 6, of a day's accounts. Row 5: the first bad account comes first, and "Index = account count if the last members are missing"
--- and none is bad. "Row 5 is tested over all accounts before row 6."
+-- and none is bad. "Row 5 is tested over all accounts before row 6." Where no amount is bad, `bad6` is the account count.
 unfoldable pub account_rows : Opening → DayInput → Verdict
 account_rows o d =
     let count = length d.headings in
     let bad5 = first_bad_heading o.n nobody d.headings in
-    let bad6 = first_where bad_amount (accounts o.k d) in
+    let bad6 = position_or_len bad_amount (accounts o.k d) in
     row (BadHeading bad5) when ltb bad5 count || last_missing o.n d.headings else
     row (BadAmount bad6) when ltb bad6 count else
     clear

@@ -1,24 +1,25 @@
 -- The period line, a day line and the end line at the front of a text: what reading it comes to, by what the code has found of it.
-use mathlib.Core.Path.{◌≡◌, refl, sym, ap, ◌∙◌}
-use mathlib.Core.Bool.{Bool, true, false, true≢false, cond, ◌||◌}
+use mathlib.Core.Path.{◌≡◌, refl, ap, ◌∙◌}
+use mathlib.Core.Bool.{Bool, true, false, true≢false, ◌||◌}
 use mathlib.Core.List.{List, [], ◌∷◌, ◌++◌}
 use Rattle.std.specs.Prelude.{None, Some}
-use Prim.Native.Nat.{ℕ, suc, ◌+◌, ◌*◌}
+use Prim.Native.Nat.{ℕ, ◌+◌, ◌*◌}
 use native.Mathlib.Omega.{arith}
-use lib.Dec.{eqb, ltb}
-use lib.ListN.{length, get_or, take, drop}
-use borrow.Author.Tests.{lt-ltb, eqb-true}
+use native.Mathlib.Numerals.{add-one}
+use lib.Dec.{eqb}
+use lib.ListN.{length, get_or, take}
+use borrow.Author.Tests.{lt-ltb, ltb-true, eqb-true}
 use Rattle.std.specs.Cmp.Lexicographic.{pointwise}
 use Rattle.std.proofs.lemmas.Bool.Decides.{Decides-eqb}
+use Rattle.std.proofs.lemmas.List.Sums.{passes_at_first, split_at_first}
 use Rattle.std.proofs.lemmas.Slice.Eq.{strip_prefix_is}
 use Rattle.numbers.proofs.Tests.{both}
-use Rattle.numbers.specs.Lists.{first_where}
 use Rattle.methodology.specs.declared.Refusal.TheVariants.{BadOpening, BadLengths, BadLine}
 use Rattle.methodology.specs.Register.{Call, Register, refusal}
 use Rattle.methodology.specs.Refusals.{n_outside, k_outside, count_outside}
 use Rattle.methodology.specs.Text.{LF, bytes, same, split, numbers_after, refused_line, after_end, read_period, read_day, closed, followed_by, report_from, report_of}
 use Rattle.methodology.specs.Lines.{index_of, has, before, after, is_end, line_read}
-use Rattle.methodology.proofs.Splits.{ltb_suc, same_eq, period_line_lem, end_line_lem, day_line, nothing_after, something_after}
+use Rattle.methodology.proofs.Splits.{same_eq, period_line_lem, end_line_lem, day_line, nothing_after, something_after}
 use Rattle.accounts.specs.AcctLines.{accounts_due}
 use Rattle.day.specs.Turns.{days_due}
 use Rattle.month.specs.MemberLines.{members_due}
@@ -64,18 +65,15 @@ end_bytes = 101 ∷ 110 ∷ 100 ∷ 10 ∷ []
 
 pub end_due : (g : Register) (line : ℕ) (text rest : List ℕ) → text ≡ end_bytes ++ rest
     → days_due text line g ≡ report_from (line + 1) (split LF rest) (after_end g line)
-unfolding first_where same bytes
+unfolding same bytes
 end_due g line text rest e = rw e (end_line_lem g line (end_bytes ++ rest) (rw (lt-ltb 3 (length (end_bytes ++ rest)) (omega arith)) refl))
 
 -- a text with a byte b is what stands before the first, b itself and what follows it
 parted : (b : ℕ) (s : List ℕ) → has b s ≡ true → s ≡ before b s ++ (b ∷ after b s)
-unfolding first_where
-parted b [] h = cc
-parted b (x ∷ s) h = by (eqb x b) refl (parted b s) h
-  where
-    by : (t : Bool) → eqb x b ≡ t → (has b s ≡ true → s ≡ before b s ++ (b ∷ after b s)) → (let i = cond t 0 (suc (index_of b s)) in ltb i (suc (length s)) ≡ true → x ∷ s ≡ take i (x ∷ s) ++ (b ∷ drop (suc i) (x ∷ s)))
-    by true e more k = ap (λ (y : ℕ). y ∷ s) (eqb-true x b e)
-    by false e more k = ap (λ (l : List ℕ). x ∷ l) (more (sym (ltb_suc (index_of b s) (length s)) ∙ k))
+parted b s h =
+    let inside = ltb-true (index_of b s) (length s) h in
+    let at_first = eqb-true _ b (passes_at_first (λ x. eqb x b) s 0 inside) in
+    split_at_first (λ x. eqb x b) s 0 inside ∙ rw (at_first, add-one (index_of b s))
 
 pub not_end : (text : List ℕ) → pointwise eqb (take 4 text) end_bytes ≡ false → is_end text ≡ false
 unfolding bytes

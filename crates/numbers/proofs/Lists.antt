@@ -1,7 +1,7 @@
 -- Lists: members, ranges, tables, parts, kept elements, and the first that passes a test. An element is read by `get_or`.
 -- A law about each element takes a function on the members, `(x : A) → x ∈ xs → ..`; `by_index` makes one of a fact about each index.
 use mathlib.Core.Path.{◌≡◌, refl, sym, ap, ap₂, ◌∙◌, subst}
-use mathlib.Core.Bool.{Bool, true, false, cond, ◌||◌, or-true}
+use mathlib.Core.Bool.{Bool, true, false, not, cond, ◌||◌, or-true}
 use mathlib.Core.List.{List, [], ◌∷◌, ◌++◌, map, flat_map, append-nil}
 use mathlib.Core.List.Memᴰ
 use mathlib.Core.List.Memᴰ.{head as here}
@@ -11,14 +11,15 @@ use Prim.Native.Nat.{ℕ, zero, suc, ◌+◌, ◌-◌, ◌≤◌, ◌<◌}
 use native.Mathlib.Omega.{arith}
 use native.Mathlib.Numerals.{add-one}
 use native.Mathlib.Nat.{not-suc-le-zero, le_of_suc-le-suc, add-zero, zero-add, suc-add, add-suc, add_comm, sub-zero, zero-sub, suc-sub-suc}
-use lib.Dec.{eqb}
-use lib.ListN.{length, get_or, take, drop, set, replicate, length-drop, drop_of_length-le}
-use lib.Seq.{drop-cons, drop-drop, take-nil, drop-nil, take-take, get_or-take, get_or-drop, get_or-set_same, get_or-set_other, length-take-le, ext_get_or}
+use lib.Dec.{eqb, ltb}
+use lib.ListN.{length, get_or, take, drop, set, replicate, length-drop}
+use lib.Seq.{drop-drop, take-nil, drop-nil, take-take, get_or-take, get_or-drop, get_or-set_same, get_or-set_other, length-take-le, ext_get_or}
 use borrow.Author.Count.{below_none, below_more}
-use borrow.Author.Tests.{eqb-true, eqb-false}
-use Rattle.std.specs.List.{filter, list_any, AllByRecursion, range_with_len}
+use borrow.Author.Tests.{eqb-true, eqb-false, ltb-false}
+use Rattle.std.specs.Prelude.{unwrap_or}
+use Rattle.std.specs.List.{filter, list_any, AllByRecursion, range_with_len, position, position_or_len}
+use Rattle.std.proofs.lemmas.List.Sums.{prefix_len-le-length}
 use Rattle.std.proofs.lemmas.List.FromFn.{length-range_with_len, get_or-range_with_len, length-map-range_with_len, get_or-map-range_with_len}
-use Rattle.numbers.specs.Lists.{first_where}
 use Rattle.numbers.proofs.Tests.{neither}
 
 infix 50 ◌∈◌
@@ -228,49 +229,16 @@ pub any_map : {A B : Type 0} (p : B → Bool) (f : A → B) (xs : List A) → li
 any_map p f [] = refl
 any_map p f (x ∷ xs) = ap (λ (t : Bool). p (f x) || t) (any_map p f xs)
 
--- the first that passes a test: all before it fail, and no other index is so
-module _ {A : Type 0} (p : A → Bool) where
-  pub first_le : (xs : List A) → first_where p xs ≤ length xs
-  unfolding first_where
-  first_le [] = omega arith
-  first_le (x ∷ xs) = by (p x) (first_le xs)
-    where
-      by : (t : Bool) → first_where p xs ≤ length xs → cond t 0 (suc (first_where p xs)) ≤ suc (length xs)
-      by true h = omega arith
-      by false h = omega arith
+-- the first that passes a test is one further on behind an element that fails; `position` finds it, or nothing where it is the end
+pub first_cons : {A : Type 0} (p : A → Bool) (x : A) (xs : List A) → p x ≡ false → position_or_len p (x ∷ xs) ≡ suc (position_or_len p xs)
+first_cons p x xs e = rw e (omega arith)
 
-  pub first_before : (xs : List A) (i : ℕ) (d : A) → i < first_where p xs → p (get_or xs i d) ≡ false
-  unfolding first_where
-  first_before [] i d h = absurd (not-suc-le-zero h)
-  first_before (x ∷ xs) i d h = by (p x) refl i h (λ j. first_before xs j d)
-    where
-      by : (t : Bool) → p x ≡ t → (i : ℕ) → i < cond t 0 (suc (first_where p xs)) → ((j : ℕ) → j < first_where p xs → p (get_or xs j d) ≡ false) → p (get_or (x ∷ xs) i d) ≡ false
-      by true q i h f = absurd (not-suc-le-zero h)
-      by false q zero h f = q
-      by false q (suc i) h f = f i (le_of_suc-le-suc h)
-
-  pub first_is : (xs : List A) (i : ℕ) (d : A) → i ≤ length xs → ((j : ℕ) → j < i → p (get_or xs j d) ≡ false) → (i < length xs → p (get_or xs i d) ≡ true) → first_where p xs ≡ i
-  unfolding first_where
-  first_is [] i d h f g = omega arith
-  first_is (x ∷ xs) zero d h f g = rw (g (omega arith))
-  first_is (x ∷ xs) (suc i) d h f g = rw (f 0 (omega arith)) (ap suc (first_is xs i d (le_of_suc-le-suc h) (λ j k. f (suc j) (omega arith)) (λ k. g (omega arith))))
-
-  -- the search as a loop: what was found so far, one further, and at the end
-  pub first_more : (xs : List A) (i : ℕ) (d : A) → i < length xs → p (get_or xs i d) ≡ false → first_where p xs ≡ i + first_where p (drop i xs) → first_where p xs ≡ (i + 1) + first_where p (drop (i + 1) xs)
-  unfolding first_where
-  first_more xs i d h q e =
-      let step : first_where p (drop i xs) ≡ suc (first_where p (drop (suc i) xs)) = rw (drop-cons xs i d h, q) in
-      rw add-one (omega arith)
-
-  pub first_stop : (xs : List A) (i : ℕ) (d : A) → i < length xs → p (get_or xs i d) ≡ true → first_where p xs ≡ i + first_where p (drop i xs) → first_where p xs ≡ i
-  unfolding first_where
-  first_stop xs i d h q e =
-      let here : first_where p (drop i xs) ≡ 0 = rw (drop-cons xs i d h, q) in
-      omega arith
-
-  pub first_end : (xs : List A) (i : ℕ) → length xs ≤ i → first_where p xs ≡ i + first_where p (drop i xs) → first_where p xs ≡ i
-  unfolding first_where
-  first_end xs i h e = rw (drop_of_length-le xs h, add-zero) at e
+pub first_or_all : {A : Type 0} (p : A → Bool) (xs : List A) → unwrap_or (position p xs) (length xs) ≡ position_or_len p xs
+first_or_all p xs = by (ltb (position_or_len p xs) (length xs)) refl
+  where
+    by : (t : Bool) → ltb (position_or_len p xs) (length xs) ≡ t → unwrap_or (position p xs) (length xs) ≡ position_or_len p xs
+    by true e = rw e
+    by false e = rw e (omega (arith, ltb-false _ _ e, prefix_len-le-length (λ x. not (p x)) xs))
 
 -- what every element has, a member has; and back
 pub every_mem : {A : Type 0} (P : A → Type 0) (xs : List A) → AllByRecursion P xs → (x : A) → x ∈ xs → P x

@@ -1,10 +1,5 @@
--- Lists, in the words of document 01. An index counts from 0.
-use Rattle.std.specs.Prelude.{Bool, cond, List, [], ◌∷◌, ℕ, suc, leb}
-
--- the index of the first element that passes a test, or the length where none does
-unfoldable pub first_where : {A : Type 0} → (A → Bool) → List A → ℕ
-first_where test [] = 0
-first_where test (x ∷ xs) = cond (test x) 0 (suc (first_where test xs))
+-- A list of numbers put in order, the largest first.
+use Rattle.std.specs.Prelude.{cond, List, [], ◌∷◌, ℕ, leb}
 
 -- x put into a list before the first number that is not above it
 unfoldable pub insert : ℕ → List ℕ → List ℕ

@@ -10,7 +10,8 @@ use lib.ListN.{length, get_or, take, length-take}
 use lib.Seq.{get_or-take}
 use borrow.Author.Tests.{ltb-true, lt-ltb}
 use Rattle.std.specs.List.{AllByRecursion, range_with_len}
-use Rattle.numbers.proofs.Lists.{◌∈◌, by_index, first_before, map_eq, range_mem}
+use Rattle.std.proofs.lemmas.List.Sums.{fails_before_first}
+use Rattle.numbers.proofs.Lists.{◌∈◌, by_index, map_eq, range_mem}
 use Rattle.methodology.specs.Account.{DayInput, Account}
 use Rattle.methodology.specs.Member.{loss}
 use Rattle.methodology.specs.Day.{total, scale, share, five, dailies}
@@ -70,7 +71,7 @@ module _ {p : Period} {d : DayInput} {room : ℕ} (s : Admits p d room) where
   good_amount : (a : Account) → a ∈ accounts_brought p d → bad_amount a ≡ false
   good_amount =
       by_index (λ a. bad_amount a ≡ false) (accounts_brought p d) none
-      (λ i h. first_before bad_amount (accounts_brought p d) i none (omega (arith, s.rows.amounts, accounts_long p.held.k d)))
+      (λ i h. fails_before_first bad_amount (accounts_brought p d) i none (omega (arith, s.rows.amounts, accounts_long p.held.k d)))
 
   pub total_few : total (held_by p) (accounts_brought p d) ≤ greatest_total
   total_few =

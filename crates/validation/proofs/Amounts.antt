@@ -1,5 +1,5 @@
--- Row 6: what it leaves of an NPV, the tests of the account at an index of a day, and the search for the first account with a bad amount.
--- The search says what is left: the first such account is i further on than that of the accounts from i on.
+-- Row 6: what it leaves of an NPV, the tests of the account at an index of a day, and the search for the first account with a bad amount:
+-- none before i has one.
 use mathlib.Core.Path.{◌≡◌, ◌∙◌}
 use mathlib.Core.Bool.{Bool, true, false, ◌||◌}
 use Prim.Native.Nat.{ℕ, ◌+◌, ◌-◌, ◌*◌, ◌≤◌, ◌<◌}
@@ -8,12 +8,12 @@ use native.Mathlib.Omega.{arith}
 use lib.Dec.{ltb}
 use lib.IntN.{ℤ, nat_abs}
 use lib.ListN.{length, get_or, take, drop}
-use Rattle.std.specs.List.{list_any}
+use Rattle.std.specs.List.{list_any, position_or_len}
 use Rattle.std.proofs.lemmas.Bool.Decides.{nat_tests}
 use Rattle.std.proofs.lemmas.Int.{ints}
-use Rattle.numbers.specs.Lists.{first_where}
 use Rattle.std.proofs.lemmas.List.FromFn.{get_or-map-range_with_len}
-use Rattle.numbers.proofs.Lists.{first_more, first_stop, first_end}
+use Rattle.std.proofs.lemmas.List.Sums.{position_or_len_is}
+use Rattle.numbers.proofs.Lists.{NoneBefore, none_more}
 use Rattle.methodology.specs.Account.{DayInput, account_at, accounts}
 use Rattle.methodology.specs.Refusals.{limit, outside, npv_outside, bad_amount}
 use Rattle.methodology.proofs.RowLimits.{accounts_long}
@@ -43,20 +43,16 @@ module _ (k : ℕ) (d : DayInput) (i : ℕ) where
       || outside 0 limit (get_or d.margins i 0)
       || ltb (get_or d.margins i 0) (get_or d.extras i 0)
 
-  abbrev left : Type 0
-  left = first_where bad_amount (accounts k d) ≡ i + first_where bad_amount (drop i (accounts k d))
-
   lent : i < length d.headings → {b : Bool} → bad_lent ≡ b → bad_amount (get_or (accounts k d) i none) ≡ b
   lent l e =
       let wide : i * (k + 1) + (k + 1) - i * (k + 1) ≡ k + 1 = omega arith in
       bad_amount_at l ∙ rw wide at e
 
-  pub amount_more : i < length d.headings → bad_lent ≡ false → left
-      → first_where bad_amount (accounts k d) ≡ (i + 1) + first_where bad_amount (drop (i + 1) (accounts k d))
-  amount_more l e s = first_more bad_amount (accounts k d) i none (omega (arith, accounts_long k d)) (lent l e) s
+  pub amount_more : i < length d.headings → bad_lent ≡ false → NoneBefore bad_amount (accounts k d) none i → NoneBefore bad_amount (accounts k d) none (i + 1)
+  amount_more l e = none_more bad_amount (accounts k d) none i (omega (arith, accounts_long k d)) (lent l e)
 
-  pub amount_stop : i < length d.headings → bad_lent ≡ true → left → first_where bad_amount (accounts k d) ≡ i
-  amount_stop l e s = first_stop bad_amount (accounts k d) i none (omega (arith, accounts_long k d)) (lent l e) s
+  pub amount_stop : i < length d.headings → bad_lent ≡ true → NoneBefore bad_amount (accounts k d) none i → position_or_len bad_amount (accounts k d) ≡ i
+  amount_stop l e s = position_or_len_is bad_amount (accounts k d) i none s.high s.fails (λ h. lent l e)
 
-  pub amount_end : length d.headings ≤ i → left → first_where bad_amount (accounts k d) ≡ i
-  amount_end l s = first_end bad_amount (accounts k d) i (omega (arith, accounts_long k d)) s
+  pub amount_end : length d.headings ≤ i → NoneBefore bad_amount (accounts k d) none i → position_or_len bad_amount (accounts k d) ≡ i
+  amount_end l s = position_or_len_is bad_amount (accounts k d) i none s.high s.fails (λ h. absurd (omega (arith, accounts_long k d)))

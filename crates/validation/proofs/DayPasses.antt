@@ -1,7 +1,7 @@
 -- What rows 4 to 6 leave of a day, in facts instead of tests.
 -- Each row's tests are taken apart at each index; the NPV at x stands in the row of account x / (k + 1).
 use mathlib.Core.Path.{◌≡◌, sym, ◌∙◌}
-use mathlib.Core.Bool.{false, ◌||◌}
+use mathlib.Core.Bool.{false, not, ◌||◌}
 use mathlib.Core.List.{◌∷◌}
 use Prim.Native.Nat.{ℕ, suc, ◌+◌, ◌*◌, ◌/◌, ◌%◌, ◌≤◌, ◌<◌}
 use native.Mathlib.Nat.{mul-le-mul_right, div-add-mod', div-lt_iff_lt-mul, mod-lt}
@@ -9,10 +9,10 @@ use native.Mathlib.Omega.{arith}
 use lib.Dec.{ltb}
 use lib.IntN.{pos, nat_abs}
 use lib.ListN.{length, get_or, take, drop}
-use Rattle.std.specs.List.{list_any}
+use Rattle.std.specs.List.{list_any, position_or_len}
 use Rattle.std.proofs.lemmas.Bool.Decides.{nat_tests}
-use Rattle.numbers.specs.Lists.{first_where}
-use Rattle.numbers.proofs.Lists.{part_at, part_length, mem_at, any_false, first_before, first_le}
+use Rattle.std.proofs.lemmas.List.Sums.{fails_before_first, prefix_len-le-length}
+use Rattle.numbers.proofs.Lists.{part_at, part_length, mem_at, any_false}
 use Rattle.methodology.specs.declared.Refusal.TheVariants.{BadDayNumber, BadLengths, BadHeading, BadAmount}
 use Rattle.methodology.specs.declared.Opening.{Opening}
 use Rattle.methodology.specs.Account.{DayInput, nobody, accounts}
@@ -43,13 +43,13 @@ module _ (o : Opening) (d : DayInput) where
     fine_at i l = fine o.n (get_or (nobody ∷ d.headings) i nobody) (get_or d.headings i nobody) (all_good o.n nobody d.headings e5 i l)
 
   -- row 6 at each account
-  module _ (e6 : first_where bad_amount (accounts o.k d) ≡ length d.headings) where
+  module _ (e6 : position_or_len bad_amount (accounts o.k d) ≡ length d.headings) where
     parts : (i : ℕ) → i < length d.headings
         → (list_any npv_outside (take (o.k + 1) (drop (i * (o.k + 1)) d.npvs)) ≡ false)
         × (get_or d.margins i 0 ≤ limit)
         × (get_or d.extras i 0 ≤ get_or d.margins i 0)
     parts i l =
-        let good = sym (bad_amount_at o.k d i l) ∙ first_before bad_amount (accounts o.k d) i none (omega arith) in
+        let good = sym (bad_amount_at o.k d i l) ∙ fails_before_first bad_amount (accounts o.k d) i none (omega arith) in
         (grind (arith, nat_tests), grind (arith, nat_tests), grind (arith, nat_tests))
 
     npv_in : length d.npvs ≡ length d.headings * (o.k + 1) → (x : ℕ) → x < length d.npvs → nat_abs (get_or d.npvs x (pos 0)) ≤ limit
@@ -68,7 +68,7 @@ module _ (o : Opening) (d : DayInput) where
 
   -- rows 4 to 6 together
   pub rows_leave : bad_input o d ≡ false → first_bad_heading o.n nobody d.headings ≡ length d.headings
-      → first_where bad_amount (accounts o.k d) ≡ length d.headings → Passed o d
+      → position_or_len bad_amount (accounts o.k d) ≡ length d.headings → Passed o d
   rows_leave e4 e5 e6 =
       let size = sized o d e4 in
       record {
@@ -93,7 +93,7 @@ unfolding day_rows account_rows
 passes o last d e =
     let hs = d.headings in
     let bad5 = first_bad_heading o.n nobody hs in
-    let bad6 = first_where bad_amount (accounts o.k d) in
+    let bad6 = position_or_len bad_amount (accounts o.k d) in
     let (e4, r₁) = passed BadLengths (bad_input o d) _ e in
     let (e3, r₂) = passed BadDayNumber (bad_day_number last d.terms.number) _ r₁ in
     let (e5, r₃) = passed (BadHeading bad5) (ltb bad5 (length hs) || last_missing o.n hs) _ r₂ in
@@ -103,5 +103,5 @@ passes o last d e =
       number = e3;
       headings = grind (arith, nat_tests, bad_heading_le o.n nobody hs);
       complete = grind (arith, nat_tests);
-      amounts = grind (arith, nat_tests, first_le bad_amount (accounts o.k d), accounts_long o.k d);
+      amounts = grind (arith, nat_tests, prefix_len-le-length (λ a. not (bad_amount a)) (accounts o.k d), accounts_long o.k d);
     }

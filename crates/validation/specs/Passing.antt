@@ -1,6 +1,6 @@
 -- What the refusal table leaves of an opening and of a day, in facts instead of tests.
 use Rattle.std.specs.Prelude.{◌≡◌, false, ℕ, ◌+◌, ◌*◌, ◌≤◌, ◌<◌, length, get_or}
-use Rattle.numbers.specs.Lists.{first_where}
+use Rattle.std.specs.List.{position_or_len}
 use Rattle.methodology.specs.declared.Opening.{Opening}
 use Rattle.methodology.specs.Account.{DayInput, accounts, nobody}
 use Rattle.methodology.specs.Refusals.{bad_input, bad_day_number, first_bad_heading, last_missing, bad_amount}
@@ -29,7 +29,7 @@ pub record Passes (o : Opening) (last : ℕ) (d : DayInput) : Type 0 where
   pub number : bad_day_number last d.terms.number ≡ false
   pub headings : first_bad_heading o.n nobody d.headings ≡ length d.headings
   pub complete : last_missing o.n d.headings ≡ false
-  pub amounts : first_where bad_amount (accounts o.k d) ≡ length d.headings
+  pub amounts : position_or_len bad_amount (accounts o.k d) ≡ length d.headings
 
 -- rows 4 to 6, of its slices
 pub record Passed (o : Opening) (d : DayInput) : Type 0 where

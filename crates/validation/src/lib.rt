@@ -6,8 +6,7 @@ pub mod limits;
 
 ghost use Rattle.std.specs.Prelude.{◌≡◌, ◌||◌, ◌+◌, ◌*◌, ◌≤◌, ltb, length};
 ghost use Rattle.std.specs.Bool.{then_some};
-ghost use Rattle.std.specs.List.{list_any};
-ghost use Rattle.numbers.specs.Lists.{first_where};
+ghost use Rattle.std.specs.List.{list_any, position_or_len};
 ghost use Rattle.methodology.specs.Account.{accounts, nobody};
 ghost use Rattle.methodology.specs.Brought.{day_brought};
 ghost use Rattle.methodology.specs.Refusals.{member_outside, not_rising, number_above, kind_unknown, zero_and_house_apart, first_not_zero, member_skipped, bad_heading, first_bad_heading, last_missing, limit, npv_outside, outside as outside_limits, bad_amount, account_rows, day_rows};
@@ -114,7 +113,7 @@ fn first_bad_amount(k: usize, day: &Day) -> Option<usize>
     requires npvs_len { length day.now.npvs.now ≡ length day.now.headings.now * (k + 1) }
     requires margins_len { length day.now.margins.now ≡ length day.now.headings.now }
     requires extras_len { length day.now.extras.now ≡ length day.now.headings.now }
-    ensures { let index = first_where bad_amount (accounts k (day_brought day.now)) in result ≡ then_some (ltb index (length day.now.headings.now)) index }
+    ensures { let index = position_or_len bad_amount (accounts k (day_brought day.now)) in result ≡ then_some (ltb index (length day.now.headings.now)) index }
 {
     let width = k + 1;
     for i in 0..day.headings.len() {

@@ -1,17 +1,19 @@
 -- `kind` meets its contract: the field is cut out where it ends, and each test is one that the definition makes.
-use Rattle.std.proofs.Common.{◌≡◌, ℕ, List, get_or, ap, sym, ◌∙◌, w64}
-use Rattle.std.specs.Prelude.{Option, Some}
+use Rattle.std.proofs.Common.{◌≡◌, ℕ, List, length, get_or, ap, sym, ◌∙◌, arith, w64}
+use Rattle.std.specs.Prelude.{Option}
 use Rattle.std.specs.List.{position}
+use Rattle.std.specs.Option.{unwrap_or}
+use Rattle.numbers.proofs.Lists.{first_or_all}
 use Rattle.numbers.proofs.Signed.{back_ok}
 use Rattle.fields.specs.Fields.{stops, size, ender}
-use Rattle.fields.proofs.Fronts.{found_some, found_none, rest_is}
+use Rattle.fields.proofs.Fronts.{rest_is}
 use Rattle.fields.proofs.OneValue.{other_end, no_end}
 use Rattle.fields.proofs.KindLetters.{kind_bad, kind_good}
 use Rattle.fields.proofs.kind.Goals as goal
 
--- where `position` found the field's end
-end_is : (s : List ℕ) {o : Option ℕ} {i : ℕ} → o ≡ position stops s → o ≡ Some i → size s ≡ i
-end_is s found at = (found_some stops s _ (sym found ∙ at)).0
+-- where `position` found the field's end, or that nothing ends it
+end_is : (s : List ℕ) {o r : Option ℕ} → o ≡ position stops s → o ≡ r → size s ≡ unwrap_or r (length s)
+end_is s found at = sym (first_or_all stops s) ∙ ap (λ (o : Option ℕ). unwrap_or o (length s)) (sym found ∙ at)
 
 ender_is : (s : List ℕ) {i : ℕ} → size s ≡ i → ender s ≡ get_or s i 0
 ender_is s e = ap (λ (n : ℕ). get_or s n 0) e
@@ -19,7 +21,8 @@ ender_is s e = ap (λ (n : ℕ). get_or s n 0) e
 pub returns-in_err-size : goal.returns-in_err-size
 returns-in_err-size c =
     let s = c.args.text.now in
-    rw c.from_residual.ensures (no_end _ _ s c.requires (found_none stops s (sym c.end_of.ensures ∙ c.in_err-size.was)))
+    let all : size s ≡ length s = end_is s c.end_of.ensures c.in_err-size.was in
+    rw c.from_residual.ensures (no_end _ _ s c.requires (omega arith))
 
 pub returns-then-text-size : goal.returns-then-text-size
 returns-then-text-size c =

@@ -1,9 +1,10 @@
--- `first_bad_amount` meets its contract. The invariant: what is left of the search, from account i on.
+-- `first_bad_amount` meets its contract. The invariant: no account before i is bad.
 use mathlib.Core.Path.{◌≡◌, sym, ◌∙◌}
 use Prim.Native.Nat.{ℕ, ◌+◌, ◌*◌, ◌≤◌, ◌<◌}
 use native.Mathlib.Omega.{arith}
 use native.Mathlib.Nat.{mul-le-mul_right}
 use Rattle.std.proofs.lemmas.Bool.Decides.{nat_tests}
+use Rattle.numbers.proofs.Lists.{none_before}
 use Rattle.methodology.specs.Brought.{day_brought}
 use Rattle.validation.proofs.Amounts.{amount_more, amount_stop, amount_end}
 use Rattle.validation.proofs.first_bad_amount.Goals as goal
@@ -17,6 +18,9 @@ overflow_mul-at c = omega (arith, room _ _ _ _ c.loop-i-test.true c.requires.npv
 
 pub slice_bounds-bad_amounts-end : goal.slice_bounds-bad_amounts-end
 slice_bounds-bad_amounts-end c = omega (arith, room _ _ _ _ c.loop-i-test.true c.requires.npvs_len)
+
+pub loop-i-init : goal.loop-i-init
+loop-i-init c = none_before _ _ _
 
 pub returns-then-bad_amounts : goal.returns-then-bad_amounts
 returns-then-bad_amounts c =
