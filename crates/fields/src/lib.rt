@@ -27,8 +27,7 @@ fn digits(text: &[u8], most: usize) -> (u64, usize)
     ensures over { Over text.now most result.1 }
 {
     let mut value = 0;
-    for k in 0..most {
-        let b = text[k];
+    for (k, &b) in text[..most].iter().enumerate() {
         if !b.is_ascii_digit() {
             return (value, k);
         }
@@ -133,14 +132,14 @@ pub fn row<'a>(text: &'a [u8], kind_place: Option<usize>, row: &mut [i64]) -> Op
 {
     let count = row.len();
     let mut rest = text;
-    for j in 0..count {
+    for (j, place) in row.iter_mut().enumerate() {
         let end = if j + 1 == count { LF } else { TAB };
         let (read, after) = if Some(j) == kind_place {
             kind(rest, end)?
         } else {
             signed(rest, end)?
         };
-        row[j] = read;
+        *place = read;
         rest = after;
     }
     Some(rest)

@@ -1,9 +1,16 @@
 -- `digits` meets its contract. The invariant: the field's number is that of what is left at index k, behind the k digits before it.
-use Rattle.std.proofs.Common.{◌≡◌, ℕ, true, get_or, subst, arith, rules}
+use Rattle.std.proofs.Common.{◌≡◌, ℕ, ◌<◌, ◌≤◌, true, List, length, take, get_or, subst, arith, rules, get_or-take}
+use Rattle.std.proofs.lemmas.List.{length-take-le}
 use Rattle.methodology.specs.Text.{is_digit}
 use Rattle.fields.specs.Fields.{Run}
 use Rattle.fields.proofs.DigitsRead.{digit_is, run_start, run_room, run_on}
 use Rattle.fields.proofs.digits.Goals as goal
+
+-- a byte of the part that is read stands in the text
+in_text : (s : List ℕ) (most k : ℕ) → most ≤ length s → k < length (take most s) → (k < most) × (get_or (take most s) k 0 ≡ get_or s k 0)
+in_text s most k m h =
+    let less : k < most = omega (arith, length-take-le most s m) in
+    (less, get_or-take most s k 0 less)
 
 pub loop-k-init : goal.loop-k-init
 loop-k-init c = run_start c.args.text.now
@@ -11,20 +18,29 @@ loop-k-init c = run_start c.args.text.now
 pub returns-then-not-is_ascii_digit-clause-run : goal.returns-then-not-is_ascii_digit-clause-run
 returns-then-not-is_ascii_digit-clause-run c = c.loop-k.invariant
 
+pub returns-then-not-is_ascii_digit-clause-over : goal.returns-then-not-is_ascii_digit-clause-over
+returns-then-not-is_ascii_digit-clause-over c =
+    let (less, same) = in_text c.args.text.now c.args.most c.loop-k.k c.requires.0 c.loop-k-test.true in
+    rw (← same) (search rules)
+
 pub overflow_mul-value : goal.overflow_mul-value
-overflow_mul-value c = omega (arith, run_room c.args.text.now c.loop-k.invariant (omega arith))
+overflow_mul-value c =
+    let (less, same) = in_text c.args.text.now c.args.most c.loop-k.k c.requires.0 c.loop-k-test.true in
+    omega (arith, run_room c.args.text.now c.loop-k.invariant (omega arith))
 
 pub overflow_add-value : goal.overflow_add-value
 overflow_add-value c =
-    let digit : is_digit (get_or c.args.text.now c.loop-k.k 0) ≡ true = search rules in
+    let (less, same) = in_text c.args.text.now c.args.most c.loop-k.k c.requires.0 c.loop-k-test.true in
+    let digit : is_digit (get_or c.args.text.now c.loop-k.k 0) ≡ true = rw (← same) (search rules) in
     omega (arith, run_room c.args.text.now c.loop-k.invariant (omega arith), digit_is (get_or c.args.text.now c.loop-k.k 0) digit, c.from.ensures)
 
 pub loop-k-preserved : goal.loop-k-preserved
 loop-k-preserved c =
-    let digit : is_digit (get_or c.args.text.now c.loop-k.k 0) ≡ true = search rules in
-    rw c.from.ensures (run_on c.args.text.now c.loop-k.invariant (omega arith) (omega arith) digit)
+    let (less, same) = in_text c.args.text.now c.args.most c.loop-k.k c.requires.0 c.loop-k-test.true in
+    let digit : is_digit (get_or c.args.text.now c.loop-k.k 0) ≡ true = rw (← same) (search rules) in
+    rw (c.from.ensures, same) (run_on c.args.text.now c.loop-k.invariant (omega arith) (omega arith) digit)
 
 pub returns-clause-run : goal.returns-clause-run
 returns-clause-run c =
-    let all : c.loop-k.k ≡ c.args.most = omega arith in
+    let all : c.loop-k.k ≡ c.args.most = omega (arith, length-take-le c.args.most c.args.text.now c.requires.0) in
     subst (λ (k : ℕ). Run c.args.text.now k c.loop-k.value) all c.loop-k.invariant
