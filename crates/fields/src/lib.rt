@@ -4,7 +4,7 @@
 ghost use Rattle.std.specs.Prelude.{◌≡◌, ◌≤◌, min, false, true, [], length, pos, slice_index_or, position, MatchOption, nat_lt};
 ghost use Rattle.std.specs.List.{list_any};
 ghost use Rattle.methodology.specs.Text.{fields, kind_of as kind_number};
-ghost use Rattle.fields.specs.Fields.{stops, Run, Over, Reads, number_at, value_at, row_at, RowReads};
+ghost use Rattle.fields.specs.Fields.{stops, Run, Over, Reads, number_at, value_at, due, row_at, RowReads};
 
 use methodology::{KIND_A, KIND_H, KIND_R, KIND_U};
 
@@ -125,6 +125,26 @@ fn kind(text: &[u8], end: u8) -> Option<(i64, &[u8])>
     Some((kind_of(field), &text[size + 1..]))
 }
 
+// A kind, or a signed number.
+fn value(text: &[u8], lettered: bool, end: u8) -> Option<(i64, &[u8])>
+    requires { stops end ≡ true }
+    ensures { Reads (value_at lettered end text.now) text.now result }
+{
+    if lettered {
+        kind(text, end)
+    } else {
+        signed(text, end)
+    }
+}
+
+// The byte that ends a field after which `left` more are due.
+fn due(left: usize) -> u8
+    ensures value { result ≡ due left }
+    ensures stops { stops result ≡ true }
+{
+    if left == 0 { LF } else { TAB }
+}
+
 // Reads the fields up to the line's end into the row, as many as it has places: the field in `kind_place` is a kind, the others are signed
 // numbers. It answers the rest after the LF, or nothing where the fields are not so.
 pub fn row<'a>(text: &'a [u8], kind_place: Option<usize>, row: &mut [i64]) -> Option<&'a [u8]>
@@ -133,12 +153,7 @@ pub fn row<'a>(text: &'a [u8], kind_place: Option<usize>, row: &mut [i64]) -> Op
     let count = row.len();
     let mut rest = text;
     for (j, place) in row.iter_mut().enumerate() {
-        let end = if j + 1 == count { LF } else { TAB };
-        let (read, after) = if Some(j) == kind_place {
-            kind(rest, end)?
-        } else {
-            signed(rest, end)?
-        };
+        let (read, after) = value(rest, Some(j) == kind_place, due(count - j - 1))?;
         *place = read;
         rest = after;
     }
