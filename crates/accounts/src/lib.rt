@@ -25,13 +25,8 @@ impl Places {
     pub fn empty() -> Places
         ensures { result ≡ cleared }
     {
-        let nobody = Heading {
-            member: 0,
-            number: 0,
-            kind: 0,
-        };
         Places {
-            headings: [nobody; 256],
+            headings: [Heading::NOBODY; 256],
             npvs: [0; 4352],
             margins: [0; 256],
             extras: [0; 256],

@@ -29,6 +29,15 @@ pub struct Heading {
     pub kind: u64,
 }
 
+impl Heading {
+    // Of nobody, in the definition's word: it stands before a day's first.
+    pub const NOBODY: Heading = Heading {
+        member: 0,
+        number: 0,
+        kind: 0,
+    };
+}
+
 // The kinds, by document 01's numbers: house; client with a replacement member appointed; client that is an Affiliate; client with no such
 // appointment. The last is the greatest known one. Constants and no enum: a heading's kind is any number, and an enum would turn back into one
 // wherever it is stored or compared.

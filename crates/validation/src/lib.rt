@@ -54,12 +54,8 @@ pub fn account_rows(opening: Opening, day: &Day) -> Result<(), Refusal>
 fn first_bad_heading(n: u64, headings: &[Heading]) -> Option<usize>
     ensures { let index = first_bad_heading n nobody headings.now in result ≡ then_some (ltb index (length headings.now)) index }
 {
-    // a heading of nobody stands before the first, as in the definitions: an `Option` would need rules of its own
-    let mut prev = Heading {
-        member: 0,
-        number: 0,
-        kind: 0,
-    };
+    // nobody's heading stands before the first, as in the definitions: an `Option` would need rules of its own
+    let mut prev = Heading::NOBODY;
     for (i, &heading) in headings.iter().enumerate() {
         if bad_heading(n, prev, heading) {
             return Some(i);
