@@ -99,8 +99,8 @@ impl<'a> Accounts<'a> {
         ensures { RowIs self.now.k (accounts_in self.now) result }
     {
         let mut row = [0; 16];
-        for j in 0..self.k {
-            row[j] = self.eul(Scenario::Under(j + 1));
+        for (j, place) in row[..self.k].iter_mut().enumerate() {
+            *place = self.eul(Scenario::Under(j + 1));
         }
         row
     }

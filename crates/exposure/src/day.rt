@@ -27,11 +27,10 @@ fn member_losses(n: usize, all: Accounts) -> Losses
     let mut each = [0; 32];
     let mut total = 0;
     let mut left = all;
-    for i in 0..n {
+    for (i, loss) in each[..n].iter_mut().enumerate() {
         let (own, others) = left.split(i as u64 + 1);
-        let loss = gain(own.eul(Scenario::Own));
-        each[i] = loss;
-        total += loss;
+        *loss = gain(own.eul(Scenario::Own));
+        total += *loss;
         left = others;
     }
     Losses { each, total }
@@ -46,11 +45,11 @@ pub fn own_max_eul(opening: Opening, day: &Day) -> u64
     let mut rows = [[0; 16]; 32];
     let mut top: u64 = 0;
     let mut left = Accounts::of_day(opening.k, day);
-    for i in 0..opening.n as usize {
+    for (i, &group) in opening.groups[..opening.n as usize].iter().enumerate() {
         let (own, others) = left.split(i as u64 + 1);
         let row = own.row();
         top = top.max(row_greatest(row));
-        add_row(&mut rows, opening.groups[i], row);
+        add_row(&mut rows, group, row);
         left = others;
     }
     top.max(rows_greatest(rows))

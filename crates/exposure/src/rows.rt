@@ -12,8 +12,8 @@ fn added(a: [i64; 16], b: [i64; 16]) -> [i64; 16]
     ensures { result ≡ plus a b }
 {
     let mut sums = a;
-    for j in 0..16 {
-        sums[j] += b[j];
+    for (j, sum) in sums.iter_mut().enumerate() {
+        *sum += b[j];
     }
     sums
 }

@@ -151,9 +151,11 @@ pub fn row<'a>(text: &'a [u8], kind_place: Option<usize>, row: &mut [i64]) -> Op
     ensures { RowReads (row_at kind_place 0 (length row.old) text.now) (length row.old) text.now row.new result }
 {
     let count = row.len();
+    // No field's where none is a kind. The Option itself, compared at each field, takes seven instructions more.
+    let kind_place = kind_place.unwrap_or(count);
     let mut rest = text;
     for (j, place) in row.iter_mut().enumerate() {
-        let (read, after) = value(rest, Some(j) == kind_place, due(count - j - 1))?;
+        let (read, after) = value(rest, j == kind_place, due(count - j - 1))?;
         *place = read;
         rest = after;
     }

@@ -3,4 +3,4 @@ use Rattle.fields.proofs.RowRead.{RowSoFar}
 use Rattle.fields.proofs.row.Given as goal
 
 abbrev pub invariant-loop-j : goal.invariant-loop-j
-invariant-loop-j l = RowSoFar l.text l.kind_place l.count l.row l.rest l.j
+invariant-loop-j l = RowSoFar l.text l.fn.kind_place l.count l.row l.rest l.j

@@ -5,4 +5,4 @@ use Rattle.exposure.proofs.MaxPass.{MaxPass}
 use Rattle.exposure.proofs.day.own_max_eul.Given as goal
 
 abbrev pub invariant-loop-i : goal.invariant-loop-i
-invariant-loop-i l = MaxPass l.opening (accounts l.opening.k (day_brought l.day)) l.rows l.top l.i l.left
+invariant-loop-i l = MaxPass l.fn.opening (accounts l.fn.opening.k (day_brought l.day)) l.rows l.top l.i l.left

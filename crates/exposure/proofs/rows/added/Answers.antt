@@ -11,8 +11,8 @@ use Rattle.exposure.proofs.rows.added.Goals as goal
 pub loop-j-init : goal.loop-j-init
 loop-j-init c = filled_none 16 _ (pos 0) _ c.requires.first_long
 
-pub overflow_add-sums : goal.overflow_add-sums
-overflow_add-sums c =
+pub overflow_add-sum : goal.overflow_add-sum
+overflow_add-sum c =
     let l = c.loop-j in
     rw (l.invariant.rest l.j (omega arith), near_back c.requires.first l.j, near_back c.requires.second l.j) (sum_fits c.requires.first c.requires.second l.j)
 

@@ -5,4 +5,4 @@ use Rattle.numbers.proofs.Filling.{Filled}
 use Rattle.exposure.proofs.rows.added.Given as goal
 
 abbrev pub invariant-loop-j : goal.invariant-loop-j
-invariant-loop-j l = Filled 16 (λ x. get_or l.initial.sums x (pos 0) +ℤ get_or l.b x (pos 0)) (pos 0) l.initial.sums l.j l.sums
+invariant-loop-j l = Filled 16 (λ x. get_or l.fn.a x (pos 0) +ℤ get_or l.b x (pos 0)) (pos 0) l.fn.a l.j l.sum-items
