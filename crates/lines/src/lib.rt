@@ -59,8 +59,8 @@ pub fn numbers<'a, const N: usize>(text: &'a [u8], word: &[u8]) -> Option<([u64;
     let mut values = [0i64; N];
     let rest = line(text, word, None, &mut values)?;
     let mut numbers = [0u64; N];
-    for j in 0..N {
-        numbers[j] = natural(values[j])?;
+    for (j, number) in numbers.iter_mut().enumerate() {
+        *number = natural(values[j])?;
     }
     Some((numbers, rest))
 }

@@ -10,14 +10,14 @@ returns-in_err-rest g c = rw c.from_residual.ensures (no_numbers _ _ _ (rw lengt
 pub loop-j-init : goal.loop-j-init
 loop-j-init g c = copied_none _ _ (omega (arith, length-replicate {A = ℤ}, length-replicate {A = ℕ}))
 
-pub returns-in_err-numbers : goal.returns-in_err-numbers
-returns-in_err-numbers g c =
+pub returns-in_err-number : goal.returns-in_err-number
+returns-in_err-number g c =
     let inside : c.loop-j.j < length c.line.new.values = omega (arith, length-replicate g.row.N (pos 0)) in
-    rw c.from_residual-in_err-numbers.ensures (some_negative _ _ _ (rw length-replicate at c.in_ok-rest.ensures.0) inside (natural_none (get_or c.line.new.values c.loop-j.j (pos 0)) (search rules) c.in_err-numbers.ensures))
+    rw c.from_residual-in_err-number.ensures (some_negative _ _ _ (rw length-replicate at c.in_ok-rest.ensures.0) inside (natural_none (get_or c.line.new.values c.loop-j.j (pos 0)) (search rules) c.in_err-number.ensures))
 
 pub loop-j-preserved : goal.loop-j-preserved
 loop-j-preserved g c =
-    let (natural, value) = natural_some (get_or c.line.new.values c.loop-j.j (pos 0)) (search rules) _ c.in_ok-numbers.ensures in
+    let (natural, value) = natural_some (get_or c.line.new.values c.loop-j.j (pos 0)) (search rules) _ c.in_ok-number.ensures in
     copied_more c.loop-j.invariant _ (omega (arith, length-replicate g.row.N (pos 0))) natural value
 
 pub returns : goal.returns

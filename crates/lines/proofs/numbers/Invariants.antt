@@ -3,4 +3,4 @@ use Rattle.lines.proofs.Readers.{Copied}
 use Rattle.lines.proofs.numbers.Given as goal
 
 abbrev pub invariant-loop-j : goal.invariant-loop-j
-invariant-loop-j g l = Copied l.values l.numbers l.j
+invariant-loop-j g l = Copied l.values l.number-items l.j
