@@ -32,12 +32,13 @@ abbrev pub day_due : (rest : List ℕ) → Register → DayInput → (at count :
 day_due rest g d at count =
     followed_by (sized (refusal g (Call.day d (5 * g.held.n))) g d at) (report_from (at + 1 + count) (split LF rest))
 
--- all accounts of a day, k stresses each, were read into their places, and the rest follows their lines
-pub record AllRead (text : List ℕ) (count k : ℕ) (places : Places) (rest : List ℕ) : Type 0 where
+-- all accounts of a day, k stresses each, were read and make the day d, and the rest follows their lines
+pub record AllRead (text : List ℕ) (terms : DayTerms) (count k : ℕ) (d : DayInput) (rest : List ℕ) : Type 0 where
+  pub many : length d.headings ≡ count
   pub shorter : length rest + count ≤ length text
   pub due :
-      (g : Register) (terms : DayTerms) (at : ℕ) → g.held.k ≡ k
-      → accounts_due text g terms at count ≡ day_due rest g (day_read terms count k places) at count
+      (g : Register) (at : ℕ) → g.held.k ≡ k
+      → accounts_due text g terms at count ≡ day_due rest g d at count
 
 -- the line of account j, counted from 0, is the first bad one
 pub record FirstBad (text : List ℕ) (count k j : ℕ) : Type 0 where

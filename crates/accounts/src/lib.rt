@@ -33,18 +33,25 @@ impl Places {
         }
     }
 
-    // Reads the acct lines of `count` accounts, k stresses each, from the front of the text on. It answers what follows them, or the first
-    // bad line, counted from 0.
-    pub fn read<'a>(&mut self, text: &'a [u8], count: usize, k: usize) -> Result<&'a [u8], usize>
+    // Reads the acct lines of `count` accounts, k stresses each, from the front of the text on. It answers the day that they make, and what
+    // follows them, or the first bad line, counted from 0.
+    pub fn read<'a>(
+        &mut self,
+        text: &'a [u8],
+        terms: DayTerms,
+        count: usize,
+        k: usize,
+    ) -> Result<(Day<'_>, &'a [u8]), usize>
         requires { (1 ≤ count) × (count ≤ 256) × (1 ≤ k) × (k ≤ 16) }
-        ensures { MatchResult result (λ rest. AllRead text.now count k self.new rest.now) (λ j. FirstBad text.now count k j) }
+        ensures { MatchResult result (λ r. AllRead text.now terms count k (day_brought r.0) r.1.now) (λ j. FirstBad text.now count k j) }
     {
         let width = k + 1;
         let mut rest = text;
+        // By the index: each account goes to a place in four slices, and two loans zipped are not known to a proof.
         for j in 0..count {
             let mut places = [0; 22]; // for 16 stresses
             let values = &mut places[..k + 6];
-            let Some((terms, next)) = account(rest, values) else {
+            let Some((line, next)) = account(rest, values) else {
                 return Err(j);
             };
             if text.len() - next.len() > MOST_BYTES {
@@ -54,26 +61,18 @@ impl Places {
             let npvs = &mut self.npvs[from..from + width];
             npvs[0] = values[3];
             npvs[1..].copy_from_slice(&values[6..]);
-            self.headings[j] = terms.heading;
-            self.margins[j] = terms.margin;
-            self.extras[j] = terms.extra;
+            self.headings[j] = line.heading;
+            self.margins[j] = line.margin;
+            self.extras[j] = line.extra;
             rest = next;
         }
-        Ok(rest)
-    }
-
-    // The day of the accounts in the first places.
-    pub fn day(&self, terms: DayTerms, count: usize, k: usize) -> Day<'_>
-        requires { (count ≤ 256) × (k ≤ 16) }
-        ensures accounts { day_brought result ≡ day_read terms count k self.now }
-        ensures many { length result.headings.now ≡ count }
-    {
-        Day {
+        let day = Day {
             terms,
             headings: &self.headings[..count],
-            npvs: &self.npvs[..count * (k + 1)],
+            npvs: &self.npvs[..count * width],
             margins: &self.margins[..count],
             extras: &self.extras[..count],
-        }
+        };
+        Ok((day, rest))
     }
 }

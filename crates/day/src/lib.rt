@@ -45,8 +45,8 @@ impl<'a> Progress<'a> {
         ensures turn_meets { (g : Register) → Stands g self.entry → TurnMeets (accounts_due rest.entry.now g terms self.entry.line count) printer.old printer.new result }
         ensures further { IfSome result (λ to. length to.rest.now < length self.entry.rest.now) }
     {
-        match places.read(rest, count, self.k) {
-            Ok(rest) => self.sized(&places.day(terms, count, self.k), rest, printer),
+        match places.read(rest, terms, count, self.k) {
+            Ok((day, rest)) => self.sized(&day, rest, printer),
             Err(j) => {
                 printer.refusal(Refusal::BadLine, self.line + 1 + j as u64);
                 None

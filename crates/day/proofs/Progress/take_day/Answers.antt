@@ -6,5 +6,4 @@ use Rattle.day.proofs.Progress.take_day.Goals as goal
 pub returns-in-Ok-clause-turn_meets : goal.returns-in-Ok-clause-turn_meets
 returns-in-Ok-clause-turn_meets c =
     let read = c.in-Ok.ensures in
-    let day = c.day.ensures in
-    λ g h. same_due _ _ _ (read.due g c.args.terms c.args.self.line h.scenarios ∙ rw (day.accounts, day.many)) (c.sized.ensures.turn_meets g h)
+    λ g h. same_due _ _ _ (read.due g c.args.self.line h.scenarios ∙ rw read.many) (c.sized.ensures.turn_meets g h)
