@@ -47,7 +47,7 @@ impl Places {
     {
         let width = k + 1;
         let mut rest = text;
-        // By the index: each account goes to a place in four slices, and two loans zipped are not known to a proof.
+        // By an index, which serves all four arrays: their places zipped would nest three deep, and no proof knows what is written through a zip.
         for j in 0..count {
             let mut places = [0; 22]; // for 16 stresses
             let values = &mut places[..k + 6];

@@ -85,6 +85,7 @@ impl<'a> Accounts<'a> {
     {
         let mut tally = Tally::EMPTY;
         let width = self.k + 1;
+        // By an index, which serves all four slices: zipped they would nest three deep.
         for (i, heading) in self.headings.iter().enumerate() {
             let at = i * width;
             let fall = scenario.fall(&self.npvs[at..at + width]);

@@ -83,14 +83,11 @@ fn signed(text: &[u8], end: u8) -> Option<(i64, &[u8])>
 fn kind_of(field: &[u8]) -> i64
     ensures { result ≡ pos (kind_number field.now) }
 {
-    let [letter] = field else {
-        return 9;
-    };
-    match *letter {
-        b'H' => KIND_H as i64,
-        b'R' => KIND_R as i64,
-        b'A' => KIND_A as i64,
-        b'U' => KIND_U as i64,
+    match field {
+        [b'H'] => KIND_H as i64,
+        [b'R'] => KIND_R as i64,
+        [b'A'] => KIND_A as i64,
+        [b'U'] => KIND_U as i64,
         _ => 9,
     }
 }

@@ -32,7 +32,8 @@ pub fn write_dailies(losses: &[u64], max: u64, total: u64, out: &mut [u64])
     ensures { out.new ≡ flat_map (λ e. five e max total) losses.now }
 {
     for (i, &loss) in losses.iter().enumerate() {
-        // The form that document 01 names: "each member's five into its own stretch of the lent buffer".
+        // The form that document 01 names: "each member's five into its own stretch of the lent buffer". By an index: over
+        // `chunks_exact_mut(5)` (tried) the proof does not close, since it knows nothing of what was written but its length.
         write_five(loss, max, total, &mut out[5 * i..]);
     }
 }
@@ -46,6 +47,7 @@ pub fn with_shares(sums: [u64; 32], n: usize, out: &[u64]) -> [u64; 32]
     ensures { result ≡ with_shares sums n out.now }
 {
     let mut all = sums;
+    // By an index: over `all.iter_mut().zip(out.chunks_exact(5))` (tried) the proof does not close, as in `write_dailies`.
     for i in 0..n {
         all[i] += out[5 * i + 1];
     }
@@ -86,6 +88,7 @@ pub fn write_contributions(sums: &[u64], m: u64, d: u64, out: &mut [u64]) -> u64
 {
     let mut total: u64 = 0;
     for (i, &sum) in sums.iter().enumerate() {
+        // by an index, as in `write_dailies`
         total += write_three(raw_charge(m, sum, d), &mut out[3 * i..]);
     }
     total
