@@ -83,9 +83,6 @@ number_bound f v e =
 -- ---- a reader that is at index i, where the digits before i make v
 
 module _ (s : List ℕ) where
-  pub run_start : Run s 0 0
-  run_start = record { within = omega arith; few = omega arith; small = omega arith; value = refl; odds = refl; counts = omega arith }
-
   -- one more digit leaves room in 64 bits
   pub run_room : {i v : ℕ} → Run s i v → i < 13 → v < 10 ^ 12
   run_room {i} r h = let l : i ≤ 12 = omega arith in omega (arith, r.small, pow-le-pow_right {n = 10} (omega arith) l)

@@ -12,17 +12,6 @@ in_text s most k m h =
     let less : k < most = omega (arith, length-take-le most s m) in
     (less, get_or-take most s k 0 less)
 
-pub loop-k-init : goal.loop-k-init
-loop-k-init c = run_start c.args.text.now
-
-pub returns-then-not-is_ascii_digit-clause-run : goal.returns-then-not-is_ascii_digit-clause-run
-returns-then-not-is_ascii_digit-clause-run c = c.loop-k.invariant
-
-pub returns-then-not-is_ascii_digit-clause-over : goal.returns-then-not-is_ascii_digit-clause-over
-returns-then-not-is_ascii_digit-clause-over c =
-    let (less, same) = in_text c.args.text.now c.args.most c.loop-k.k c.requires.0 c.loop-k-test.true in
-    rw (← same) (search rules)
-
 pub overflow_mul-value : goal.overflow_mul-value
 overflow_mul-value c =
     let (less, same) = in_text c.args.text.now c.args.most c.loop-k.k c.requires.0 c.loop-k-test.true in
@@ -39,8 +28,3 @@ loop-k-preserved c =
     let (less, same) = in_text c.args.text.now c.args.most c.loop-k.k c.requires.0 c.loop-k-test.true in
     let digit : is_digit (get_or c.args.text.now c.loop-k.k 0) ≡ true = rw (← same) (search rules) in
     rw (c.from.ensures, same) (run_on c.args.text.now c.loop-k.invariant (omega arith) (omega arith) digit)
-
-pub returns-clause-run : goal.returns-clause-run
-returns-clause-run c =
-    let all : c.loop-k.k ≡ c.args.most = omega (arith, length-take-le c.args.most c.args.text.now c.requires.0) in
-    subst (λ (k : ℕ). Run c.args.text.now k c.loop-k.value) all c.loop-k.invariant

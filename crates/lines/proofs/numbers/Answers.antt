@@ -7,9 +7,6 @@ use Rattle.lines.proofs.numbers.Goals as goal
 pub returns-in_err-rest : goal.returns-in_err-rest
 returns-in_err-rest g c = rw c.from_residual.ensures (no_numbers _ _ _ (rw length-replicate at c.in_err-rest.ensures))
 
-pub loop-j-init : goal.loop-j-init
-loop-j-init g c = copied_none _ _ (omega (arith, length-replicate {A = ℤ}, length-replicate {A = ℕ}))
-
 pub returns-in_err-number : goal.returns-in_err-number
 returns-in_err-number g c =
     let inside : c.loop-j.j < length c.line.new.values = omega (arith, length-replicate g.row.N (pos 0)) in
