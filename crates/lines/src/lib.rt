@@ -33,6 +33,7 @@ fn line<'a>(
     requires values_nonzero { 0 < length values.old }
     ensures { let read = line_row word.now kind_place (length values.old) text.now in MatchOption result (read ≡ None) (λ rest. (read ≡ Some values.new) × (rest.now ≡ after LF text.now)) }
 {
+    // The first word is a field and compared whole, the forms that document 01 names: `strip_prefix` would not cut it out.
     if field(text) != word || text.len() <= word.len() {
         return None;
     }

@@ -1,9 +1,8 @@
 -- `digits` meets its contract. The invariant: the field's number is that of what is left at index k, behind the k digits before it.
-use Rattle.std.proofs.Common.{◌≡◌, ℕ, ◌<◌, ◌≤◌, true, List, length, take, get_or, subst, arith, rules, get_or-take}
+use Rattle.std.proofs.Common.{◌≡◌, ℕ, ◌<◌, ◌≤◌, true, List, length, take, get_or, arith, rules, get_or-take}
 use Rattle.std.proofs.lemmas.List.{length-take-le}
 use Rattle.methodology.specs.Text.{is_digit}
-use Rattle.fields.specs.Fields.{Run}
-use Rattle.fields.proofs.DigitsRead.{digit_is, run_start, run_room, run_on}
+use Rattle.fields.proofs.DigitsRead.{digit_is, run_room, run_on}
 use Rattle.fields.proofs.digits.Goals as goal
 
 -- a byte of the part that is read stands in the text
