@@ -96,15 +96,16 @@ account_rows_few o d few =
     when_few (BadHeading _) _ _ (omega (arith, bad_heading_le o.n nobody d.headings))
     (λ e. when_few (BadAmount _) _ clear (omega (arith, prefix_len-le-length (λ a. not (bad_amount a)) (accounts o.k d), accounts_long o.k d)) (λ f. tt))
 
+-- whichever of rows 3 and 4 stands first
 pub day_few : (s : Status) (o : Opening) (last : ℕ) (d : DayInput) (room : ℕ) → RowFew (day_refusal s o last d room)
 unfolding day_refusal before_figures day_rows
 day_few s o last d room =
     rows_few (before_figures s o last d room) _
-    (when_few OutOfTurn _ _ tt
-    (λ e. when_few BadLengths _ _ tt
-    (λ e. when_few BadLengths _ _ tt
-    (λ e. when_few BadDayNumber _ _ tt
-    (λ f. account_rows_few o d (count_few o d e))))))
+    (when_few _ _ _ tt
+    (λ h. when_few _ _ _ tt
+    (λ k. when_few _ _ _ tt
+    (λ e. when_few _ _ _ tt
+    (λ f. account_rows_few o d (grind (arith, count_few o d)))))))
     (when_few NoLoss _ clear tt (λ e. tt))
 
 pub closing_few : (s : Status) (o : Opening) (room : ℕ) → RowFew (closing_refusal s o room)
