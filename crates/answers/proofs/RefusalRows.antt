@@ -8,7 +8,6 @@ use Rattle.methodology.specs.declared.Refusal.{Refusal}
 use Rattle.methodology.specs.Numbers.{row_number, row_index}
 use Rattle.methodology.specs.Refusals.{Verdict, clear}
 use Rattle.methodology.specs.Register.{accepted, refused_with, refused_by, answer_by}
-use Rattle.methodology.specs.Text.{refused_line, line_named}
 
 accepted_only : (figures : List ℕ) (number : ℕ) (index : Option ℕ) → accepted figures ≡ refused_with number index → ⊥
 accepted_only figures number None e = let z : ◌≡◌ {A = ℕ} 0 1 = cc in omega arith
@@ -30,14 +29,6 @@ pub record Told (x : Verdict) (told : Refusal) : Type 0 where
   pub is : x ≡ Err met
   pub number : row_number met ≡ row_number told
   pub index : row_index met ≡ row_index told
-
--- and is printed alike, under the line that it names, which is the call's own where it has no index
-module _ {x : Verdict} {told : Refusal} (t : Told x told) where
-  pub told_line : (i : ℕ) → refused_line t.met (line_named i (row_index t.met)) ≡ refused_line told (line_named i (row_index told))
-  told_line i = rw (t.number, t.index)
-
-  pub told_own_line : row_index told ≡ None → (i : ℕ) → refused_line t.met i ≡ refused_line told (line_named i (row_index told))
-  told_own_line h i = rw (t.number, h)
 
 pub is_told : (x : Verdict) (figures : List ℕ) (told : Refusal) → answer_by x figures ≡ refused_by told → Told x told
 is_told (Ok _) figures told e = absurd (accepted_only figures (row_number told) (row_index told) e)

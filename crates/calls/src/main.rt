@@ -10,8 +10,8 @@
 
 ghost use Rattle.std.specs.Prelude.{◌≤◌, ◌<◌, get_or};
 
-use methodology::{Day, DayTerms, Heading, KIND_A, KIND_H, KIND_R, KIND_U};
-use period::{Accepted, Period, Reply};
+use methodology::{Day, DayTerms, Heading, KIND_A, KIND_H, KIND_R, KIND_U, Refusal};
+use period::{ClosingReturns, DayReturns, Period, Reply};
 use printing::put_rows;
 use std::{array, io};
 
@@ -50,41 +50,52 @@ struct Calls<'a, P: Print> {
 }
 
 impl<'a, P: Print> Calls<'a, P> {
-    // Prints a call's number and what it says, and keeps the period that it returned.
-    fn step(&mut self, call: u64, reply: Reply) -> io::Result<()> {
+    // Prints a call's number and the row that refused it, with its index in rows 5 and 6.
+    fn refused(&self, call: u64, refusal: Refusal) -> io::Result<()> {
         let rt = self.rt;
-        self.period = reply.period;
-        match reply.outcome {
-            Ok(Accepted::Opened) => println!(rt; "{call}\taccepted"),
-            Ok(Accepted::Sized(total, max)) => println!(rt; "{call}\taccepted\t{total}\t{max}"),
-            Ok(Accepted::Closed(days, highest, funds)) => {
-                println!(rt; "{call}\taccepted\t{days}\t{highest}\t{funds}")
-            }
-            Err(refusal) => {
-                let row = refusal.number();
-                match refusal.index() {
-                    None => println!(rt; "{call}\trefused\t{row}"),
-                    Some(index) => println!(rt; "{call}\trefused\t{row}\tat\t{index}"),
-                }
-            }
+        let row = refusal.number();
+        match refusal.index() {
+            None => println!(rt; "{call}\trefused\t{row}"),
+            Some(index) => println!(rt; "{call}\trefused\t{row}\tat\t{index}"),
         }
     }
 
     fn opening(&mut self, call: u64, n: u64, k: u64, groups: &[u64]) -> io::Result<()> {
-        let reply = self.period.opening(n, k, groups);
-        self.step(call, reply)
+        let rt = self.rt;
+        let Reply { period, outcome } = self.period.opening(n, k, groups);
+        self.period = period;
+        match outcome {
+            Ok(()) => println!(rt; "{call}\taccepted"),
+            Err(refusal) => self.refused(call, refusal),
+        }
     }
 
     fn day(&mut self, call: u64, day: &Day, out: &mut [u64]) -> io::Result<()> {
-        let reply = self.period.day(day, out);
-        self.step(call, reply)?;
-        put_rows(self.rt, out, 5)
+        let rt = self.rt;
+        let Reply { period, outcome } = self.period.day(day, out);
+        self.period = period;
+        match outcome {
+            Ok(DayReturns { total, max }) => println!(rt; "{call}\taccepted\t{total}\t{max}")?,
+            Err(refusal) => self.refused(call, refusal)?,
+        }
+        put_rows(rt, out, 5)
     }
 
     fn closing(&mut self, call: u64, out: &mut [u64]) -> io::Result<()> {
-        let reply = self.period.closing(out);
-        self.step(call, reply)?;
-        put_rows(self.rt, out, 3)
+        let rt = self.rt;
+        let Reply { period, outcome } = self.period.closing(out);
+        self.period = period;
+        match outcome {
+            Ok(
+                ClosingReturns {
+                    days,
+                    highest,
+                    funds,
+                },
+            ) => println!(rt; "{call}\taccepted\t{days}\t{highest}\t{funds}")?,
+            Err(refusal) => self.refused(call, refusal)?,
+        }
+        put_rows(rt, out, 3)
     }
 
     // A day of three members, each with its house account alone.

@@ -4,7 +4,7 @@
 ghost use Rattle.std.specs.Prelude.{◌+◌, ◌^◌, ◌≤◌, length};
 
 use accounts::Places;
-use answers::say;
+use answers::{print_day, print_refused_day};
 use methodology::{Day, DayTerms, Refusal};
 use period::{Period, Reply};
 use report::Printer;
@@ -64,17 +64,14 @@ impl<'a> Progress<'a> {
         let mut figures = [0; 160];
         let figures = &mut figures[..5 * self.n];
         let Reply { period, outcome } = self.period.day(day, figures);
-        say(
-            printer,
-            outcome,
-            day.terms.number,
-            self.line,
-            self.n,
-            figures,
-        );
-        if outcome.is_err() {
-            return None;
-        }
+        let returns = match outcome {
+            Ok(returns) => returns,
+            Err(refusal) => {
+                print_refused_day(printer, refusal, self.line);
+                return None;
+            }
+        };
+        print_day(printer, day.terms.number, returns, self.n, figures);
         // each field by its name: `..self` is not there for a struct with a ghost field
         Some(Progress {
             rest,

@@ -24,6 +24,7 @@ use Rattle.methodology.specs.Brought.{day_brought}
 use Rattle.methodology.specs.Refusals.{clear}
 use Rattle.methodology.specs.Register.{start, refusal}
 use Rattle.period.specs.declared.Period.{Period}
+use Rattle.period.specs.declared.Reply.{Reply}
 use Rattle.period.specs.Reading.{brought, answer_of}
 use Rattle.period.specs.Calls.{fresh_period}
 use Rattle.period.specs.contracts.Period.fresh as fresh-fn
@@ -34,7 +35,7 @@ use Rattle.period.proofs.Period.fresh.Symbol as fresh-code
 use Rattle.period.proofs.Period.opening.Symbol as opening-code
 use Rattle.period.proofs.Period.day.Symbol as day-code
 use Rattle.period.proofs.Period.closing.Symbol as closing-code
-use Rattle.demand3.specs.Made.{Asked, Made, call_of, Meets, MadeOn}
+use Rattle.demand3.specs.Made.{Asked, Returned, figures_of, Made, call_of, Meets, MadeOn}
 use Rattle.demand3.specs.Demand3.{Covers, Holds, register_after, Narrow, CanBeMade}
 use Rattle.demand3.proofs.Facts.{Ensured}
 use Rattle.demand3.proofs.Returns.{Returns}
@@ -75,19 +76,24 @@ pub record CallOf (f : Compiled) : Type 0 where
   pub result : Res f.ended.signature κs
   pub exit : AtExit f.ended κs
 
+-- what was asked, and by the reply what came back: document 01's answer is read off the outcome
+abbrev pub replied : (asked : Asked) → Reply (Returned asked) → (after : List ℕ) → Made
+replied asked reply after =
+    record { asked = asked; answer = answer_of (figures_of asked) reply.outcome; period = reply.period; after = after }
+
 -- The period that a call was given, and the call in plain values: which of its arguments is which.
 abbrev pub in_plain : (f : Method) → CallOf (compiled f) → Period × Made
 in_plain opening c =
     let (self, (n, (k, (groups, _)))) = c.arguments in
-    (self, record { asked = Asked.opening (brought n k groups.now); reply = c.result; after = [] })
+    (self, replied (Asked.opening (brought n k groups.now)) c.result [])
 in_plain day c =
     let (self, (d, (out, _))) = c.arguments in
     let (_, (_, (after, _))) = c.exit in
-    (self, record { asked = Asked.day (day_brought d.now) out.now; reply = c.result; after = after.now })
+    (self, replied (Asked.day (day_brought d.now) out.now) c.result after.now)
 in_plain closing c =
     let (self, (out, _)) = c.arguments in
     let (_, (after, _)) = c.exit in
-    (self, record { asked = Asked.closing out.now; reply = c.result; after = after.now })
+    (self, replied (Asked.closing out.now) c.result after.now)
 
 -- a call of any of them
 pub record Called : Type 0 where
@@ -112,7 +118,7 @@ module _ {M : Type 1} {𝓤 : Ura M} (𝓛 : Logic 𝓤) (mem : Memory → SProp
   -- "where each gets the period that the one before returned": compiled calls from period p on, each of which meets its `ensures`
   abbrev pub Linked : Period → List Called → Type 1
   Linked p [] = Unit {1}
-  Linked p (c ∷ cs) = (given c ≡ p) × AsEnsured c.call × Linked (made_of c).reply.period cs
+  Linked p (c ∷ cs) = (given c ≡ p) × AsEnsured c.call × Linked (made_of c).period cs
 
   -- such a list from a period that `fresh` returned, by `fresh`'s own `ensures`
   pub record FromFresh (cs : List Called) : Type 1 where
@@ -153,7 +159,7 @@ pub record Upholds (f : Compiled) (Says : CallOf f → Type 0) : Type 2 where
 abbrev pub Promised : (f : Method) → CallOf (compiled f) → Type 0
 Promised f c =
     let (p, m) = in_plain f c in
-    Meets p m.asked m.reply m.after
+    Meets p m.asked m.answer m.period m.after
 
 pub record Demand3 : Type 2 where
   -- demand 3 of every list of calls from a fresh period, each with the period that the one before returned
@@ -163,7 +169,7 @@ pub record Demand3 : Type 2 where
   pub last_closing :
       (cs : List Made) (c : Made) (out : List ℕ) → c.asked ≡ Asked.closing out → MadeOn fresh_period (cs ++ (c ∷ []))
       → refusal (register_after start cs) (call_of c.asked) ≡ clear
-      → Covers (register_after start (cs ++ (c ∷ []))) (answer_of c.reply.outcome) c.after
+      → Covers (register_after start (cs ++ (c ∷ []))) c.answer c.after
   -- It is not about nothing: calls with any arguments can be made, of numbers that fit 64 bits.
   pub every_list_can_be_made : (arguments : List Asked) → CanBeMade fresh_period arguments
   pub fresh_narrow : Narrow fresh_period
@@ -179,4 +185,4 @@ pub record Demand3 : Type 2 where
       {M : Type 1} {𝓤 : Ura M} (𝓛 : Logic 𝓤) (mem : Memory → SProp 𝓤) (run : Routine → Fun 𝓤)
       (cs : List Called) (c : Called) (out : List ℕ) → (made_of c).asked ≡ Asked.closing out → FromFresh 𝓛 mem run (cs ++ (c ∷ []))
       → refusal (register_after start (map made_of cs)) (call_of (made_of c).asked) ≡ clear
-      → Covers (register_after start (map made_of (cs ++ (c ∷ [])))) (answer_of (made_of c).reply.outcome) (made_of c).after
+      → Covers (register_after start (map made_of (cs ++ (c ∷ [])))) (made_of c).answer (made_of c).after

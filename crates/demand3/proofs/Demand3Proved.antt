@@ -17,7 +17,7 @@ use contract.Monad.{Fun, fact}
 use contract.Notation.{connectives}
 use Rattle.methodology.specs.Register.{start}
 use Rattle.period.specs.declared.Period.{Period}
-use Rattle.period.specs.Reading.{brought}
+use Rattle.period.specs.Reading.{brought, answer_of, opening_returned}
 use Rattle.period.specs.Calls.{fresh_period}
 use Rattle.period.proofs.Period.fresh.Met as fresh-proved
 use Rattle.period.proofs.Period.opening.Met as opening-proved
@@ -69,7 +69,7 @@ upholds opening =
     upheld (compiled opening) (Promised opening) (λ M 𝓤 𝓛 𝓜 𝓡 w. opening-proved.met 𝓤 𝓛 𝓜 𝓡 w)
     (λ M 𝓤 𝓛 mem run κs (self, (n, (k, (groups, _)))) i.
     let o = brought n k groups.now in
-    record { ghost = Unit {0}; requires = λ _. (connectives 𝓤).⊤ₛ; ensures = λ _ r e. fact 𝓤 (no_buffer (opening_prop self o r) i) })
+    record { ghost = Unit {0}; requires = λ _. (connectives 𝓤).⊤ₛ; ensures = λ _ r e. fact 𝓤 (no_buffer (opening_prop self o (answer_of opening_returned r.outcome) r.period) i) })
 upholds day = upheld (compiled day) (Promised day) (λ M 𝓤 𝓛 𝓜 𝓡 w. day-proved.met 𝓤 𝓛 𝓜 𝓡 w) (λ M 𝓤 𝓛 mem run κs a. refl)
 upholds closing = upheld (compiled closing) (Promised closing) (λ M 𝓤 𝓛 𝓜 𝓡 w. closing-proved.met 𝓤 𝓛 𝓜 𝓡 w) (λ M 𝓤 𝓛 mem run κs a. refl)
 
@@ -83,8 +83,8 @@ module _ {M : Type 1} {𝓤 : Ura M} (𝓛 : Logic 𝓤) (mem : Memory → SProp
   linked_made p [] l = tt
   linked_made p (c ∷ cs) (g, k, l) =
       let m = made_of c in
-      let met = kept_says (upholds c.function) c.call (meets_prop (given c) m.asked m.reply m.after) k in
-      (subst (λ (q : Period). Meets q m.asked m.reply m.after) g met, linked_made m.reply.period cs l)
+      let met = kept_says (upholds c.function) c.call (meets_prop (given c) m.asked m.answer m.period m.after) k in
+      (subst (λ (q : Period). Meets q m.asked m.answer m.period m.after) g met, linked_made m.period cs l)
 
   fresh_made : (cs : List Called) → FromFresh 𝓛 mem run cs → MadeOn fresh_period (map made_of cs)
   fresh_made cs f =

@@ -11,8 +11,6 @@ use Rattle.methodology.specs.Refusals.{Verdict, clear}
 use Rattle.methodology.specs.Register.{Call, Register, refusal, accept, if_accepted, step, returned, written, Answer, accepted, refused_with, answer_by, answer, buffer}
 use Rattle.methodology.proofs.Passed.{step_clear, either}
 use Rattle.period.specs.declared.Period.{Period}
-use Rattle.period.specs.declared.Reply.{Reply}
-use Rattle.period.specs.Reading.{answer_of}
 use Rattle.period.specs.Calls.{held_by}
 use Rattle.period.specs.Follows.{Good, Follows}
 use Rattle.period.proofs.InRange.{held_opened, closable}
@@ -40,42 +38,42 @@ unfolding answer buffer
 closes {g} f c a q out is e =
     let k = Call.closing (length out) in
     let passes : refusal g k ≡ clear = rw is at e in
-    let said : answer_of c.reply.outcome ≡ accepted (returned (step g k) k) = a.answer ∙ rw (is, passes) in
+    let said : c.answer ≡ accepted (returned (step g k) k) = a.answer ∙ rw (is, passes) in
     let wrote : c.after ≡ written (step g k) k = a.buffer ∙ rw (is, passes) in
     rw (said, wrote, is) (covers (step g k) (length out) (rw is at q.counted) (some_members f (length out) passes))
 
 -- one call, which the register follows
-pub agrees : {g : Register} {p : Period} → Follows g p → (a : Asked) (r : Reply) (after : List ℕ) → Meets p a r after
-    → Follows (step g (call_of a)) r.period × Agrees g (record { asked = a; reply = r; after = after })
-agrees {g} f (Asked.opening o) r after (m, none) =
+pub agrees : {g : Register} {p : Period} → Follows g p → (a : Asked) (said : Answer) (left : Period) (after : List ℕ) → Meets p a said left after
+    → Follows (step g (call_of a)) left × Agrees g (record { asked = a; answer = said; period = left; after = after })
+agrees {g} f (Asked.opening o) said left after (m, none) =
     let (f', e) = opening_follows f m in
     (f', record { answer = e; buffer = none ∙ nothing_written g o; period = f'.is })
-agrees f (Asked.day d out) r after m =
+agrees f (Asked.day d out) said left after m =
     let (f', e, w) = day_follows f m in
     (f', record { answer = e; buffer = w; period = f'.is })
-agrees f (Asked.closing out) r after m =
+agrees f (Asked.closing out) said left after m =
     let (f', e, w) = closing_follows f m in
     (f', record { answer = e; buffer = w; period = f'.is })
 
-pub one : {g : Register} {p : Period} → Follows g p → (c : Made) → Meets p c.asked c.reply c.after
-    → Follows (step g (call_of c.asked)) c.reply.period × Agrees g c × AtClosing g c
+pub one : {g : Register} {p : Period} → Follows g p → (c : Made) → Meets p c.asked c.answer c.period c.after
+    → Follows (step g (call_of c.asked)) c.period × Agrees g c × AtClosing g c
 one {g} f c m =
-    let (f', a) = agrees f c.asked c.reply c.after m in
+    let (f', a) = agrees f c.asked c.answer c.period c.after m in
     (f', a, closes f c a f'.good)
 
 pub holds : {g : Register} {p : Period} → Follows g p → (cs : List Made) → MadeOn p cs → Holds g cs
 holds f [] m = tt
 holds {g = g} {p = p} f (c ∷ cs) (m, ms) =
     let (f', a, k) = one f c m in
-    (a, k, holds {g = step g (call_of c.asked)} {p = c.reply.period} f' cs ms)
+    (a, k, holds {g = step g (call_of c.asked)} {p = c.period} f' cs ms)
 
 -- where the last call is an accepted closing
 pub last_closing : {g : Register} {p : Period} → Follows g p → (cs : List Made) (c : Made) (out : List ℕ) → c.asked ≡ Asked.closing out
     → MadeOn p (cs ++ (c ∷ [])) → refusal (register_after g cs) (call_of c.asked) ≡ clear
-    → Covers (register_after g (cs ++ (c ∷ []))) (answer_of c.reply.outcome) c.after
+    → Covers (register_after g (cs ++ (c ∷ []))) c.answer c.after
 last_closing f [] c out is (m, _) e = (one f c m).2 out is e
 last_closing {g = g} {p = p} f (b ∷ cs) c out is (m, ms) e =
-    last_closing {g = step g (call_of b.asked)} {p = b.reply.period} (one f b m).0 cs c out is ms e
+    last_closing {g = step g (call_of b.asked)} {p = b.period} (one f b m).0 cs c out is ms e
 
 -- demand 3 of the calls after the first ones, so that the last of a list agrees with the register that the others have left
 pub holds_from : (g : Register) (cs ds : List Made) → Holds g (cs ++ ds) → Holds (register_after g cs) ds
@@ -98,7 +96,7 @@ module _ {X : Type 0} (note : Asked → (figures : List ℕ) → X → X) (of : 
   by_row g a (Ok _) = accepted-so g a
   by_row g a (Err met) = by_refused a (row_number met) (row_index met) (of g)
 
-  by_one : (g : Register) (c : Made) → Agrees g c → by_answer note c.asked (answer_of c.reply.outcome) (of g) ≡ of (step g (call_of c.asked))
+  by_one : (g : Register) (c : Made) → Agrees g c → by_answer note c.asked c.answer (of g) ≡ of (step g (call_of c.asked))
   unfolding step answer
   by_one g c agreed = ap (λ (a : Answer). by_answer note c.asked a (of g)) agreed.answer ∙ by_row g c.asked (refusal g (call_of c.asked))
 

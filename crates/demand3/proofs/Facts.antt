@@ -16,7 +16,6 @@ use denote.Signature.{type_at}
 use Rattle.methodology.specs.declared.Opening.{Opening}
 use Rattle.methodology.specs.Register.{Answer, accepted, refused, refused_at}
 use Rattle.period.specs.declared.Period.{Period}
-use Rattle.period.specs.declared.Reply.{Reply}
 use Rattle.period.specs.Calls.{OpeningMeets}
 use Rattle.period.specs.contracts.Period.fresh as fresh-fn
 use Rattle.demand3.specs.Made.{Asked, Meets}
@@ -56,19 +55,19 @@ back (refused_at number index) = refl
 answer_set : IsSet Answer
 answer_set = retract_set numbered answered back list_set
 
-pub opening_prop : (p : Period) (o : Opening) (r : Reply) → IsProp (OpeningMeets p o r)
-opening_prop p o r x y =
+pub opening_prop : (p : Period) (o : Opening) (said : Answer) (left : Period) → IsProp (OpeningMeets p o said left)
+opening_prop p o said left x y =
     λ i. record { answer = answer_set _ _ x.answer y.answer i; period = period_set _ _ x.period y.period i }
 
-pub meets_prop : (p : Period) (a : Asked) (r : Reply) (after : List ℕ) → IsProp (Meets p a r after)
-meets_prop p (Asked.opening o) r after x y = λ i. (opening_prop p o r x.0 y.0 i, list_set _ _ x.1 y.1 i)
-meets_prop p (Asked.day d out) r after x y =
+pub meets_prop : (p : Period) (a : Asked) (said : Answer) (left : Period) (after : List ℕ) → IsProp (Meets p a said left after)
+meets_prop p (Asked.opening o) said left after x y = λ i. (opening_prop p o said left x.0 y.0 i, list_set _ _ x.1 y.1 i)
+meets_prop p (Asked.day d out) said left after x y =
     λ i. record {
       answer = answer_set _ _ x.answer y.answer i;
       period = period_set _ _ x.period y.period i;
       buffer = list_set _ _ x.buffer y.buffer i;
     }
-meets_prop p (Asked.closing out) r after x y =
+meets_prop p (Asked.closing out) said left after x y =
     λ i. record {
       answer = answer_set _ _ x.answer y.answer i;
       period = period_set _ _ x.period y.period i;

@@ -22,17 +22,16 @@ use Rattle.methodology.specs.Account.{no_opening, DayInput}
 use Rattle.methodology.specs.Day.{total, dailies}
 use Rattle.methodology.specs.Contribution.{funded, unfunded, three}
 use Rattle.methodology.specs.Refusals.{Verdict, clear, is_open, bad_opening, opening_refusal}
-use Rattle.methodology.specs.Register.{if_accepted, accepted, refused_with, answer_by}
+use Rattle.methodology.specs.Register.{Answer, refused_with, answer_by}
 use Rattle.methodology.proofs.Passed.{passed, either}
 use Rattle.methodology.proofs.RowLimits.{at_most_9, row_occurs, Few as IndexFew, RowFew, opening_few, day_few, closing_few}
 use Rattle.quotient.specs.Ranges.{greatest_total, Charge}
 use Rattle.validation.specs.Slices.{in_places}
 use Rattle.validation.proofs.OpeningPasses.{opening_leaves}
 use Rattle.period.specs.declared.Period.{Period}
-use Rattle.period.specs.declared.Accepted.{Accepted}
-use Rattle.period.specs.declared.Accepted.TheVariants as says
-use Rattle.period.specs.declared.Reply.{Reply}
-use Rattle.period.specs.Reading.{answer_of}
+use Rattle.period.specs.declared.DayReturns.{DayReturns}
+use Rattle.period.specs.declared.ClosingReturns.{ClosingReturns}
+use Rattle.period.specs.Reading.{answer_of, opening_returned, day_returned, closing_returned}
 use Rattle.period.specs.Calls.{fresh_period, held_by, in_range, status_of, opening_row, opened_period, accounts_brought, day_row, share_at, reported_by, sized_period, closing_row, sums_held, charge_by, closed_period}
 use Rattle.fund.proofs.RawCharge.{charge_le}
 use Rattle.fund.proofs.Dailies.{Few, dailies_long}
@@ -161,19 +160,35 @@ answer_fits : (x : Verdict) (figures : List ℕ) → RowFew x → (x ≡ clear �
 answer_fits (Ok _) figures h f = f refl
 answer_fits (Err met) figures h f = refused_fits (row_number met) (row_index met) (at_most_9 _ (row_occurs met)) h
 
-pub fits : {p : Period} → Narrow p → (a : Asked) (r : Reply) (after : List ℕ) → Meets p a r after → Fits (record { asked = a; reply = r; after = after })
+-- the outcome that has the answer of a contract
+outcome_by : {A : Type 0} → Verdict → A → Result A Refusal
+outcome_by (Ok _) x = Ok x
+outcome_by (Err met) x = Err met
+
+outcome_says : {A : Type 0} (x : Verdict) (returned : A → List ℕ) (figures : A) → answer_by x (returned figures) ≡ answer_of returned (outcome_by x figures)
+unfolding outcome_by
+outcome_says (Ok _) returned figures = refl
+outcome_says (Err met) returned figures = refl
+
+pub fits : {p : Period} → Narrow p → (a : Asked) (said : Answer) (left : Period) (after : List ℕ) → Meets p a said left after
+    → Fits (record { asked = a; answer = said; period = left; after = after })
 unfolding opening_row opening_refusal
-fits {p} q (Asked.opening o) r after (m, none) =
+fits {p} q (Asked.opening o) said left after (m, none) =
     record {
+      outcome = outcome_by (opening_row p o) tt;
+      of_outcome = m.answer ∙ outcome_says (opening_row p o) opening_returned tt;
       answer = rw m.answer (answer_fits (opening_row p o) [] (opening_row_few p o) (λ e. tt));
       period = subst Narrow (sym m.period) (either Narrow (opening_row p o) _ p (λ e. narrow_opened o (passed BadOpening (bad_opening o) clear (passed OutOfTurn (is_open (status_of p)) _ e).1).0) q);
       buffer = λ b. rw none tt;
       long = rw none refl;
     }
-fits {p} q (Asked.day d out) r after m =
+fits {p} q (Asked.day d out) said left after m =
     let x = day_row p d (length out) in
     let pass : x ≡ clear → Admits p d (length out) × (0 < total (held_by p) (accounts_brought p d)) = passes_all p d (length out) in
+    let figures : DayReturns = record { total = total (held_by p) (accounts_brought p d); max = reported_by p d } in
     record {
+      outcome = outcome_by x figures;
+      of_outcome = m.answer ∙ outcome_says x day_returned figures;
       answer = rw m.answer (answer_fits x _ (day_row_few p d (length out)) (λ e. day_figures_fit p d (length out) (pass e)));
       period = subst Narrow (sym m.period) (either Narrow x _ p (λ e. narrow_sized p d (sized_in_range p d (pass e).0 (pass e).1) q) q);
       buffer = λ b. subst (AllByRecursion Fits64) (sym m.buffer) (either (AllByRecursion Fits64) x _ out (λ e. dailies_fit p d (length out) (pass e)) b);
@@ -181,10 +196,14 @@ fits {p} q (Asked.day d out) r after m =
           ap length m.buffer
           ∙ either (λ (l : List ℕ). length l ≡ length out) x _ out (λ e. dailies_long (held_by p) _ (accounts_brought p d) ∙ sym (pass e).0.room_long) refl;
     }
-fits {p} q (Asked.closing out) r after m =
+fits {p} q (Asked.closing out) said left after m =
     let x = closing_row p (length out) in
     let pass : x ≡ clear → Ready p 3 (length out) = closable p (length out) in
+    let figures : ClosingReturns =
+    record { days = p.accrued.days; highest = p.accrued.highest; funds = Σ (sums_held p) (λ s. funded (charge_by p s)) } in
     record {
+      outcome = outcome_by x figures;
+      of_outcome = m.answer ∙ outcome_says x closing_returned figures;
       answer = rw m.answer (answer_fits x _ (closing_row_few p (length out)) (λ e. closing_figures_fit (pass e) q.accrued.sums_long));
       period = subst Narrow (sym m.period) (either Narrow x _ p (λ e. narrow_closed p q) q);
       buffer = λ b. subst (AllByRecursion Fits64) (sym m.buffer) (either (AllByRecursion Fits64) x _ out (λ e. closing_fits (pass e) q.accrued.sums_long) b);
@@ -193,42 +212,20 @@ fits {p} q (Asked.closing out) r after m =
 
 -- ---- calls with any arguments can be made
 
--- an outcome with the answer that a contract names
-outcome_by : Verdict → Accepted → Result Accepted Refusal
-outcome_by (Ok _) a = Ok a
-outcome_by (Err met) a = Err met
-
-answered : (x : Verdict) (a : Accepted) (figures : List ℕ) → answer_of (Ok a) ≡ accepted figures → answer_of (outcome_by x a) ≡ answer_by x figures
-unfolding outcome_by
-answered (Ok _) a figures e = e
-answered (Err met) a figures e = refl
-
--- the reply that a contract names, the buffer that it leaves, and that they meet it
-pub makes : (p : Period) (a : Asked) → (r : Reply) × (after : List ℕ) × Meets p a r after
-makes p (Asked.opening o) =
-    let x = opening_row p o in
-    let r : Reply = record { outcome = outcome_by x says.Opened; period = if_accepted x (opened_period o) p } in
-    (r, [], (record { answer = answered x _ _ refl; period = refl }, refl))
-makes p (Asked.day d out) =
-    let x = day_row p d (length out) in
-    let accts = accounts_brought p d in
-    let sized = says.Sized (total (held_by p) accts) (reported_by p d) in
-    let r : Reply = record { outcome = outcome_by x sized; period = if_accepted x (sized_period p d) p } in
-    (r, if_accepted x (dailies (held_by p) (reported_by p d) accts) out, record { answer = answered x _ _ refl; period = refl; buffer = refl })
-makes p (Asked.closing out) =
-    let x = closing_row p (length out) in
-    let closed = says.Closed p.accrued.days p.accrued.highest (Σ (sums_held p) (λ s. funded (charge_by p s))) in
-    let r : Reply = record { outcome = outcome_by x closed; period = if_accepted x (closed_period p) p } in
-    (r, if_accepted x (flat_map (λ s. three (charge_by p s)) (sums_held p)) out, record { answer = answered x _ _ refl; period = refl; buffer = refl })
+-- the answer that a contract names, the period and the buffer that the call leaves, and that they meet it
+pub makes : (p : Period) (a : Asked) → (said : Answer) × (left : Period) × (after : List ℕ) × Meets p a said left after
+makes p (Asked.opening o) = (_, _, [], (record { answer = refl; period = refl }, refl))
+makes p (Asked.day d out) = (_, _, _, record { answer = refl; period = refl; buffer = refl })
+makes p (Asked.closing out) = (_, _, _, record { answer = refl; period = refl; buffer = refl })
 
 pub can_be_made : {p : Period} → Narrow p → (arguments : List Asked) → CanBeMade p arguments
 can_be_made q [] = record { calls = []; same = refl; made = tt; fits = tt }
 can_be_made {p} q (a ∷ rest) =
-    let (r, after, m) = makes p a in
-    let f = fits q a r after m in
-    let t = can_be_made {p = r.period} f.period rest in
+    let (said, left, after, m) = makes p a in
+    let f = fits q a said left after m in
+    let t = can_be_made {p = left} f.period rest in
     record {
-      calls = record { asked = a; reply = r; after = after } ∷ t.calls;
+      calls = record { asked = a; answer = said; period = left; after = after } ∷ t.calls;
       same = ap (λ (l : List Asked). a ∷ l) t.same;
       made = (m, t.made);
       fits = (f, t.fits);

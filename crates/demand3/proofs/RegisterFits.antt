@@ -35,11 +35,11 @@ pub record CallFits (g : Register) (c : Call) : Type 0 where
 as_asked : {g : Register} → Kept g → (a : Asked) → AllByRecursion Fits64 (lent a) → CallFits g (call_of a)
 unfolding answer buffer
 as_asked k a free =
-    let (r, after, m) = makes k.period a in
-    let f = fits k.narrow a r after m in
-    let (follows, agreed) = agrees k.follows a r after m in
+    let (said, left, after, m) = makes k.period a in
+    let f = fits k.narrow a said left after m in
+    let (follows, agreed) = agrees k.follows a said left after m in
     record {
-      kept = record { period = r.period; follows = follows; narrow = f.period };
+      kept = record { period = left; follows = follows; narrow = f.period };
       returned_fits = λ passes. rw (agreed.answer, passes) at f.answer;
       written_fits = λ passes. rw (agreed.buffer, passes) at (f.buffer free);
     }

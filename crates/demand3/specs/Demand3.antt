@@ -1,9 +1,10 @@
 -- Demand 3, in its own order: "The fund covers 110% of the worst loss and hardly more." proofs/Demand3.antt says it of the program.
-use Rattle.std.specs.Prelude.{◌≡◌, List, [], ◌∷◌, map, ℕ, ◌+◌, ◌-◌, ◌*◌, ◌^◌, ◌≤◌, ◌<◌, length, get_or}
+use Rattle.std.specs.Prelude.{◌≡◌, List, [], ◌∷◌, map, ℕ, ◌+◌, ◌-◌, ◌*◌, ◌^◌, ◌≤◌, ◌<◌, length, get_or, Result}
 use Rattle.std.specs.List.{fold, AllByRecursion}
 use Rattle.numbers.specs.Sums.{Σ}
 use Rattle.numbers.specs.Fractions.{Fraction, ◌over◌, whole, Proper, ◌⊕◌, ◌⊗◌, ◌≼◌, ◌≺◌}
 use Rattle.methodology.specs.declared.Opening.{Opening}
+use Rattle.methodology.specs.declared.Refusal.{Refusal}
 use Rattle.methodology.specs.Account.{members}
 use Rattle.methodology.specs.Contribution.{highest, exact_charge, allowance, shortfall}
 use Rattle.methodology.specs.Refusals.{clear}
@@ -12,7 +13,7 @@ use Rattle.period.specs.declared.Accrued.{Accrued}
 use Rattle.period.specs.declared.Period.{Period}
 use Rattle.period.specs.Reading.{answer_of}
 use Rattle.period.specs.Registered.{period_of}
-use Rattle.demand3.specs.Made.{Asked, Made, lent, call_of, MadeOn}
+use Rattle.demand3.specs.Made.{Asked, Returned, figures_of, Made, lent, call_of, MadeOn}
 
 -- ---- each call
 
@@ -21,9 +22,9 @@ use Rattle.demand3.specs.Made.{Asked, Made, lent, call_of, MadeOn}
 -- arguments and the register as the call leaves it." So say `answer` and `buffer` in methodology's Register.antt, with the requests of
 -- document 02 that are in. The period that comes back holds what the register holds, so that a refused call leaves it as it was (demand 1).
 pub record Agrees (g : Register) (c : Made) : Type 0 where
-  pub answer : answer_of c.reply.outcome ≡ answer g (call_of c.asked)
+  pub answer : c.answer ≡ answer g (call_of c.asked)
   pub buffer : c.after ≡ buffer g (call_of c.asked) (lent c.asked)
-  pub period : c.reply.period ≡ period_of (step g (call_of c.asked))
+  pub period : c.period ≡ period_of (step g (call_of c.asked))
 
 -- ---- an accepted closing
 
@@ -64,7 +65,7 @@ pub record Covers (g : Register) (said : Answer) (out : List ℕ) : Type 0 where
 abbrev pub AtClosing : Register → Made → Type 0
 AtClosing g c =
     (out : List ℕ) → c.asked ≡ Asked.closing out → refusal g (call_of c.asked) ≡ clear
-    → Covers (step g (call_of c.asked)) (answer_of c.reply.outcome) c.after
+    → Covers (step g (call_of c.asked)) c.answer c.after
 
 -- ---- the list
 
@@ -84,7 +85,7 @@ by_answer note asked (refused number) x = x
 by_answer note asked (refused_at number index) x = x
 
 abbrev pub from_answers : {X : Type 0} → (note : Asked → (figures : List ℕ) → X → X) → X → List Made → X
-from_answers note = fold (λ x c. by_answer note c.asked (answer_of c.reply.outcome) x)
+from_answers note = fold (λ x c. by_answer note c.asked c.answer x)
 
 -- ---- that it is not about nothing
 
@@ -115,11 +116,13 @@ pub record Narrow (p : Period) : Type 0 where
   pub held : NarrowOpening p.held
   pub accrued : NarrowAccrued p.accrued
 
--- A call that the program can make: every number that it answers, or leaves in the period or the buffer, fits 64 bits, where those do that
--- the buffer had, and the buffer is as long as before.
+-- A call that the program can make: it has an outcome with this answer, every number that it answers, or leaves in the period or the buffer,
+-- fits 64 bits, where those do that the buffer had, and the buffer is as long as before.
 pub record Fits (c : Made) : Type 0 where
-  pub answer : AllByRecursion Fits64 (numbers_in (answer_of c.reply.outcome))
-  pub period : Narrow c.reply.period
+  pub outcome : Result (Returned c.asked) Refusal
+  pub of_outcome : c.answer ≡ answer_of (figures_of c.asked) outcome
+  pub answer : AllByRecursion Fits64 (numbers_in c.answer)
+  pub period : Narrow c.period
   pub buffer : AllByRecursion Fits64 (lent c.asked) → AllByRecursion Fits64 c.after
   pub long : length c.after ≡ length (lent c.asked)
 

@@ -2,9 +2,11 @@
 use Rattle.std.specs.Prelude.{◌≡◌, List, [], ◌∷◌, ℕ, length}
 use Rattle.methodology.specs.declared.Opening.{Opening}
 use Rattle.methodology.specs.Account.{DayInput}
-use Rattle.methodology.specs.Register.{Call}
+use Rattle.methodology.specs.Register.{Call, Answer}
 use Rattle.period.specs.declared.Period.{Period}
-use Rattle.period.specs.declared.Reply.{Reply}
+use Rattle.period.specs.declared.DayReturns.{DayReturns}
+use Rattle.period.specs.declared.ClosingReturns.{ClosingReturns}
+use Rattle.period.specs.Reading.{opening_returned, day_returned, closing_returned}
 use Rattle.period.specs.Calls.{OpeningMeets, DayMeets, ClosingMeets}
 
 -- a call's arguments, the lent buffer among them; an opening is lent none
@@ -13,10 +15,22 @@ pub data Asked : Type 0 where
   day : (d : DayInput) (out : List ℕ) → Asked
   closing : (out : List ℕ) → Asked
 
--- a call that was made: its arguments, its reply, and the lent buffer after it
+-- what an accepted call returns, as the program has it and in document 01's order
+abbrev pub Returned : Asked → Type 0
+Returned (Asked.opening o) = Unit {0}
+Returned (Asked.day d out) = DayReturns
+Returned (Asked.closing out) = ClosingReturns
+
+abbrev pub figures_of : (a : Asked) → Returned a → List ℕ
+figures_of (Asked.opening o) = opening_returned
+figures_of (Asked.day d out) = day_returned
+figures_of (Asked.closing out) = closing_returned
+
+-- a call that was made: its arguments, document 01's answer, the period that it left, and the lent buffer after it
 pub record Made : Type 0 where
   pub asked : Asked
-  pub reply : Reply
+  pub answer : Answer
+  pub period : Period
   pub after : List ℕ
 
 -- the lent buffer before it
@@ -33,12 +47,12 @@ call_of (Asked.day d out) = Call.day d (length out)
 call_of (Asked.closing out) = Call.closing (length out)
 
 -- what the call's contract says of it, made on period p; lent no buffer, an opening leaves none
-abbrev pub Meets : Period → Asked → Reply → (after : List ℕ) → Type 0
-Meets p (Asked.opening o) r after = OpeningMeets p o r × (after ≡ [])
-Meets p (Asked.day d out) r after = DayMeets p d out r after
-Meets p (Asked.closing out) r after = ClosingMeets p out r after
+abbrev pub Meets : Period → Asked → Answer → (left : Period) → (after : List ℕ) → Type 0
+Meets p (Asked.opening o) said left after = OpeningMeets p o said left × (after ≡ [])
+Meets p (Asked.day d out) said left after = DayMeets p d out said left after
+Meets p (Asked.closing out) said left after = ClosingMeets p out said left after
 
 -- "every list of opening, day and closing calls [..], where each gets the period that the one before returned"
 abbrev pub MadeOn : Period → List Made → Type 0
 MadeOn p [] = Unit {0}
-MadeOn p (c ∷ cs) = Meets p c.asked c.reply c.after × MadeOn c.reply.period cs
+MadeOn p (c ∷ cs) = Meets p c.asked c.answer c.period c.after × MadeOn c.period cs

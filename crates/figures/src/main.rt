@@ -6,7 +6,7 @@
 ghost use Rattle.std.specs.Prelude.{◌≡◌, ◌*◌, ◌≤◌, length};
 
 use methodology::{Day, DayTerms, Heading, KIND_A, KIND_H, KIND_R, KIND_U};
-use period::{Accepted, Period};
+use period::{ClosingReturns, DayReturns, Period};
 use printing::put_rows;
 use std::{array, io};
 
@@ -33,7 +33,7 @@ impl<'a> Figure<'a> {
         let mut room = [0; 30];
         let out = &mut room[..5 * self.groups.len()];
         let reply = period.day(&self.day, out);
-        if let Ok(Accepted::Sized(total, max)) = reply.outcome {
+        if let Ok(DayReturns { total, max }) = reply.outcome {
             let figure = self.number;
             println!(rt; "{figure}\t{total}\t{max}")?;
         }
@@ -45,7 +45,14 @@ impl<'a> Figure<'a> {
 // Closes the period, and prints D, M and the total funded, then each member's three numbers.
 fn close(rt: &impl Print, period: Period, out: &mut [u64]) -> io::Result<()> {
     let reply = period.closing(out);
-    if let Ok(Accepted::Closed(days, highest, funds)) = reply.outcome {
+    if let Ok(
+        ClosingReturns {
+            days,
+            highest,
+            funds,
+        },
+    ) = reply.outcome
+    {
         println!(rt; "{days}\t{highest}\t{funds}")?;
     }
     put_rows(rt, out, 3)

@@ -1,8 +1,8 @@
 -- The member lines, one by one, and the opening call after the last: what is due of all is what is due of those that are left.
 use mathlib.Core.Path.{◌≡◌, refl, sym, ap, ◌∙◌}
 use mathlib.Core.Bool.{Bool, true, false, cond}
-use mathlib.Core.List.{List, [], ◌∷◌, ◌++◌, append-nil}
-use Rattle.std.specs.Prelude.{None, Some, is_err}
+use mathlib.Core.List.{List, [], ◌∷◌, ◌++◌}
+use Rattle.std.specs.Prelude.{None, Some}
 use Prim.Native.Nat.{ℕ, suc, ◌+◌, ◌≤◌, ◌<◌}
 use native.Mathlib.Omega.{arith}
 use native.Mathlib.Numerals.{add-one}
@@ -13,21 +13,12 @@ use borrow.Author.Tests.{eqb-true, eq-eqb, ne_eqb}
 use Rattle.std.proofs.lemmas.List.{take_more_set}
 use Rattle.methodology.specs.declared.Opening.{Opening}
 use Rattle.methodology.specs.declared.Refusal.TheVariants.{BadLine}
-use Rattle.methodology.specs.Register.{Call, Register, start, refusal}
-use Rattle.methodology.specs.Text.{LF, bytes, split, refused_line, numbers_after, Expected, member, goes_on, opened, read_member, followed_by, report_from}
+use Rattle.methodology.specs.Register.{Call, start, refusal}
+use Rattle.methodology.specs.Text.{LF, bytes, split, refused_line, numbers_after, member, goes_on, opened, read_member, followed_by, report_from}
 use Rattle.methodology.specs.Lines.{after, line_read}
 use Rattle.methodology.proofs.Splits.{member_line_lem}
-use Rattle.report.specs.declared.Printer.{Printer}
-use Rattle.report.specs.Prints.{Prints}
-use Rattle.report.proofs.Laws.{prints_then}
-use Rattle.period.specs.declared.Reply.{Reply}
 use Rattle.period.specs.Reading.{brought}
-use Rattle.period.specs.Calls.{fresh_period, OpeningMeets}
-use Rattle.answers.specs.InStep.{InStep}
-use Rattle.answers.specs.Said.{said}
-use Rattle.answers.proofs.CallsSaid.{opening_said, opening_in_step}
 use Rattle.accounts.proofs.Line.{line_shorter}
-use Rattle.day.specs.Turns.{days_due}
 use Rattle.month.specs.MemberLines.{members_due, opening_due, MemberBad}
 
 -- ---- one line
@@ -115,16 +106,3 @@ module _ {text groups : List ℕ} {j : ℕ} {rest : List ℕ} (l : Left text gro
                 ∙ member_more (length groups) k j (take j groups) long rest ns read m
                 ∙ rw (size, ← add-one j, ← more, ← n) refl;
           }
-
--- ---- what the opening call says, and the days after it
-
-module _ (rest : List ℕ) (o : Opening) (r : Reply) (m : OpeningMeets fresh_period o r) {p q : Printer} (w : Prints p (said r.outcome 0 1 0 []) q) where
-  abbrev after_members : Expected → List ℕ
-  after_members e = report_from (2 + o.n) (split LF rest) e
-
-  pub opening_ends : is_err r.outcome ≡ true → Prints p (opening_due rest o) q
-  opening_ends e = rw (opening_said o r m after_members, e, append-nil (said r.outcome 0 1 0 [])) w
-
-  pub opening_goes_on : is_err r.outcome ≡ false → {s : Printer}
-      → ((g : Register) → InStep g r.period o.n o.k → Prints q (days_due rest (2 + o.n) g) s) → Prints p (opening_due rest o) s
-  opening_goes_on e f = rw (opening_said o r m after_members, e) (prints_then w (f _ (opening_in_step o r m e)))

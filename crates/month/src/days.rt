@@ -6,10 +6,11 @@ ghost use Rattle.report.specs.Prints.{Prints};
 ghost use Rattle.day.specs.Turns.{days_due, Stands, TurnMeets};
 
 use accounts::Places;
-use answers::say;
+use answers::print_fund;
 use day::Progress;
 use lines::numbers;
 use methodology::{DayTerms, Refusal};
+use period::Reply;
 use report::Printer;
 use validation::limits::count_outside;
 
@@ -23,8 +24,11 @@ fn end(from: Progress, rest: &[u8], printer: &mut Printer)
     }
     let mut figures = [0; 96];
     let figures = &mut figures[..3 * from.n];
-    let reply = from.period.closing(figures);
-    say(printer, reply.outcome, 0, from.line, from.n, figures);
+    let Reply { outcome, .. } = from.period.closing(figures);
+    match outcome {
+        Ok(returns) => print_fund(printer, returns, from.n, figures),
+        Err(refusal) => printer.refusal(refusal, from.line),
+    }
 }
 
 // One turn: the end line and what follows, or a day, for which places are lent.

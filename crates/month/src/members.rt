@@ -4,7 +4,6 @@ ghost use Rattle.report.specs.Prints.{Prints};
 ghost use Rattle.month.specs.MemberLines.{members_due, MembersRead, MemberBad};
 
 use crate::days::days;
-use answers::say;
 use day::Progress;
 use lines::numbers;
 use methodology::Refusal;
@@ -44,9 +43,8 @@ pub fn from_members(text: &[u8], n: u64, k: u64, printer: &mut Printer)
         Err(j) => return printer.refusal(Refusal::BadLine, 2 + j as u64),
     };
     let Reply { period, outcome } = Period::fresh().opening(n, k, groups);
-    say(printer, outcome, 0, 1, 0, &[]); // no day's number, line 1, no figures of members
-    if outcome.is_err() {
-        return;
+    if let Err(refusal) = outcome {
+        return printer.refusal(refusal, 1);
     }
     let from = Progress {
         rest,

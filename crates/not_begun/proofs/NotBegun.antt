@@ -24,7 +24,6 @@ use Rattle.methodology.proofs.Passed.{step_clear, opened_anew}
 use Rattle.methodology.proofs.Splits.{nothing_after, something_after}
 use Rattle.methodology.proofs.Reports.{closing_clear}
 use Rattle.fund.proofs.RawCharge.{highest_none, raw_none, exact_none}
-use Rattle.period.specs.Reading.{answer_of}
 use Rattle.period.specs.Registered.{period_of}
 use Rattle.period.specs.Calls.{fresh_period}
 use Rattle.demand3.specs.Made.{Asked, Made, call_of, MadeOn}
@@ -88,14 +87,14 @@ of_list cs c out holds is none long =
 at_once : (cs : List Made) (a c : Made) (o : Opening) (out : List ℕ) → MadeOn fresh_period (cs ++ (a ∷ c ∷ []))
     → a.asked ≡ Asked.opening o → refusal (register_after start cs) (Call.opening o) ≡ clear
     → c.asked ≡ Asked.closing out → length out ≡ 3 * o.n
-    → AsNotBegun o.n (answer_of c.reply.outcome) c.after
+    → AsNotBegun o.n c.answer c.after
 at_once cs a c o out made is e is' long =
     let g = register_after start (cs ++ (a ∷ [])) in
     let left : g ≡ record { status = Open; held = o; days = [] } = fold_push _ start cs a ∙ rw is (opened_anew (register_after start cs) o e) in
     let made' = subst (MadeOn fresh_period) (sym (append_assoc cs (a ∷ []) (c ∷ []))) made in
     let none : NoAcceptedDay g = record { opened = rw left refl; none = rw left refl } in
     let so = (of_list (cs ++ (a ∷ [])) c out (demand_3.every_list (cs ++ (a ∷ []) ++ (c ∷ [])) made') is' none (long ∙ rw left refl)).as_not_begun in
-    subst (λ (g : Register). AsNotBegun g.held.n (answer_of c.reply.outcome) c.after) left so
+    subst (λ (g : Register). AsNotBegun g.held.n c.answer c.after) left so
 
 -- ---- D
 
@@ -107,7 +106,7 @@ counted g (Asked.day d out) = omega arith
 counted g (Asked.closing out) = refl
 
 d_shows : (cs : List Made) (c : Made) (out figures : List ℕ) → Holds start (cs ++ (c ∷ [])) → c.asked ≡ Asked.closing out
-    → answer_of c.reply.outcome ≡ accepted figures → take 1 figures ≡ days_answered cs ∷ []
+    → c.answer ≡ accepted figures → take 1 figures ≡ days_answered cs ∷ []
 unfolding answer returned accept
 d_shows cs c out figures holds is said =
     let g = register_after start cs in

@@ -11,7 +11,6 @@ use Rattle.methodology.specs.Numbers.{row_number}
 use Rattle.methodology.specs.Refusals.{Verdict}
 use Rattle.methodology.specs.Register.{Call, Register, refusal, Answer, accepted, refused, refused_at}
 use Rattle.methodology.specs.Text.{bytes, same, report_of}
-use Rattle.period.specs.Reading.{answer_of}
 use Rattle.period.specs.Calls.{fresh_period}
 use Rattle.demand3.specs.Made.{Made, MadeOn}
 use Rattle.demand3.proofs.Demand3.{Called, made_of, FromFresh}
@@ -29,7 +28,7 @@ IsRefusal number (refused r) = r ≡ number
 IsRefusal number (refused_at r index) = r ≡ number
 
 abbrev pub AnsweredBy : (number : ℕ) → Made → Type 0
-AnsweredBy number c = IsRefusal number (answer_of c.reply.outcome)
+AnsweredBy number c = IsRefusal number c.answer
 
 -- a line of a report, as it is read, that tells of such a refusal: `refused`, and this number first
 abbrev pub Tells : (number : ℕ) → Line → Type 0

@@ -18,7 +18,6 @@ use Rattle.methodology.specs.Contribution.{highest, raw, exact_charge}
 use Rattle.methodology.specs.Refusals.{clear, bad_opening}
 use Rattle.methodology.specs.Register.{Call, Register, start, refusal, step, Answer, accepted, answer, buffer}
 use Rattle.methodology.specs.Text.{bytes, printed, refused_line, report_of}
-use Rattle.period.specs.Reading.{answer_of}
 use Rattle.period.specs.Registered.{period_of}
 use Rattle.period.specs.Calls.{fresh_period}
 use Rattle.demand3.specs.Made.{Asked, Made, MadeOn}
@@ -43,8 +42,8 @@ closed_from g = record { status = Closed; held = g.held; days = [] }
 
 -- a closing that was made where the calls before it have come to register g
 pub record ClosedAt (g : Register) (c : Made) : Type 0 where
-  pub as_not_begun : AsNotBegun g.held.n (answer_of c.reply.outcome) c.after
-  pub leaves : c.reply.period ≡ period_of (closed_from g)
+  pub as_not_begun : AsNotBegun g.held.n c.answer c.after
+  pub leaves : c.period ≡ period_of (closed_from g)
 
 -- ---- D
 
@@ -89,7 +88,7 @@ pub record NotBegun : Type 2 where
   pub at_once : (cs : List Made) (a c : Made) (o : Opening) (out : List ℕ) → MadeOn fresh_period (cs ++ (a ∷ c ∷ []))
       → a.asked ≡ Asked.opening o → refusal (register_after start cs) (Call.opening o) ≡ clear
       → c.asked ≡ Asked.closing out → length out ≡ 3 * o.n
-      → AsNotBegun o.n (answer_of c.reply.outcome) c.after
+      → AsNotBegun o.n c.answer c.after
   -- and every list of compiled calls, as demand 3 has them
   pub compiled_list :
       {M : Type 1} {𝓤 : Ura M} (𝓛 : Logic 𝓤) (mem : Memory → SProp 𝓤) (run : Routine → Fun 𝓤)
@@ -98,7 +97,7 @@ pub record NotBegun : Type 2 where
       NoAcceptedDay g → length out ≡ 3 * g.held.n → ClosedAt g (made_of c)
   -- "a day call that leaves the period alone now shows in D": the D of every closing counts the days that were answered as accepted
   pub d_shows : (cs : List Made) (c : Made) (out figures : List ℕ) → MadeOn fresh_period (cs ++ (c ∷ [])) → c.asked ≡ Asked.closing out
-      → answer_of c.reply.outcome ≡ accepted figures → take 1 figures ≡ days_answered cs ∷ []
+      → c.answer ≡ accepted figures → take 1 figures ≡ days_answered cs ∷ []
   -- every text of period, members and end; with anything after it the next line is refused by 9, "before the closing call", as in any month
   pub report : (o : Opening) → bad_opening o ≡ false → report_of (text_of o) ≡ fund_of o.n
   pub report_after : (o : Opening) (rest : List ℕ) → bad_opening o ≡ false → 0 < length rest → report_of (text_of o ++ rest) ≡ refused_line BadLine (o.n + 3)

@@ -26,8 +26,6 @@ use Rattle.methodology.specs.Register.{Call, Register, start, last_number, refus
 use Rattle.methodology.proofs.SoFar.{reported_is_m, reported_more}
 use Rattle.fund.proofs.Contributions.{are_contributions, is_total_funded}
 use Rattle.period.specs.declared.Period.{Period}
-use Rattle.period.specs.declared.Reply.{Reply}
-use Rattle.period.specs.Reading.{answer_of}
 use Rattle.period.specs.Registered.{sum_at, period_of}
 use Rattle.period.specs.Follows.{Reached, fresh, by_opening, by_day, by_closing, Good, Follows}
 use Rattle.period.specs.Calls.{fresh_period, with_accrued, held_by, status_of, opening_row, opened_period, OpeningMeets, accounts_brought, day_row, reported_by, sized_period, DayMeets, closing_row, sums_held, charge_by, closed_period, ClosingMeets}
@@ -117,8 +115,8 @@ opened_good g p o e =
     let l = opening_passed p o e in
     record { groups_long = l.groups_long; members_few = l.members_few; counted = tt }
 
-pub opening_follows : {g : Register} {p : Period} {o : Opening} {r : Reply} → Follows g p → OpeningMeets p o r
-    → Follows (step g (Call.opening o)) r.period × (answer_of r.outcome ≡ answer g (Call.opening o))
+pub opening_follows : {g : Register} {p left : Period} {o : Opening} {said : Answer} → Follows g p → OpeningMeets p o said left
+    → Follows (step g (Call.opening o)) left × (said ≡ answer g (Call.opening o))
 unfolding returned
 opening_follows {g} {p} {o} f m =
     let same = opening_row_lem f o in (
@@ -204,9 +202,9 @@ pub day_writes : {g : Register} {p : Period} → Follows g p → (d : DayInput) 
     → dailies (held_by p) (reported_by p d) (accounts_brought p d) ≡ written (accept g (Call.day d room)) (Call.day d room)
 day_writes {g} f d room = ap (λ (p : Period). dailies (held_by p) (reported_by p d) (accounts_brought p d)) f.is ∙ as_written g f.good d room
 
-pub day_follows : {g : Register} {p : Period} {d : DayInput} {before : List ℕ} {r : Reply} {after : List ℕ} → Follows g p → DayMeets p d before r after
-    → Follows (step g (Call.day d (length before))) r.period
-    × (answer_of r.outcome ≡ answer g (Call.day d (length before))) × (after ≡ buffer g (Call.day d (length before)) before)
+pub day_follows : {g : Register} {p left : Period} {d : DayInput} {before after : List ℕ} {said : Answer} → Follows g p → DayMeets p d before said left after
+    → Follows (step g (Call.day d (length before))) left
+    × (said ≡ answer g (Call.day d (length before))) × (after ≡ buffer g (Call.day d (length before)) before)
 day_follows {g} {p} {d} {before} f m =
     let room = length before in
     let c = Call.day d room in
@@ -247,9 +245,9 @@ closing_writes : (g : Register) → Good g → (room : ℕ)
 unfolding period_of accept written
 closing_writes g q room = are_contributions g.held g.days (period_of g).accrued.sums (sums_are g q)
 
-pub closing_follows : {g : Register} {p : Period} {before : List ℕ} {r : Reply} {after : List ℕ} → Follows g p → ClosingMeets p before r after
-    → Follows (step g (Call.closing (length before))) r.period
-    × (answer_of r.outcome ≡ answer g (Call.closing (length before))) × (after ≡ buffer g (Call.closing (length before)) before)
+pub closing_follows : {g : Register} {p left : Period} {before after : List ℕ} {said : Answer} → Follows g p → ClosingMeets p before said left after
+    → Follows (step g (Call.closing (length before))) left
+    × (said ≡ answer g (Call.closing (length before))) × (after ≡ buffer g (Call.closing (length before)) before)
 closing_follows {g} {p} {before} f m =
     let room = length before in
     let same = closing_row_lem f room in (

@@ -1,5 +1,6 @@
 -- What each call answers and leaves, by equations, from the period that it is given and its arguments: `OpeningMeets`, `DayMeets` and
--- `ClosingMeets` are the contracts, whole. Each has an equation for the answer, one for the period, and one for the buffer if it is lent one.
+-- `ClosingMeets` are the contracts, whole. Each has an equation for document 01's answer, one for the period that is left, and one for the
+-- buffer if it is lent one.
 use Rattle.std.specs.Prelude.{Bool, not, ◌&&◌, cond, ◌≡◌, ℕ, ◌+◌, ◌*◌, max, leb, ltb, eqb, length, take, replicate}
 use mathlib.Core.List.{List, [], ◌∷◌, flat_map}
 use Rattle.std.specs.List.{list_any}
@@ -14,14 +15,12 @@ use Rattle.methodology.specs.Member.{loss}
 use Rattle.methodology.specs.Day.{total, own_max_eul, scale, share, dailies}
 use Rattle.methodology.specs.Contribution.{charge, funded, three}
 use Rattle.methodology.specs.Refusals.{Verdict, clear, row◌when◌else◌, is_open, bad_opening, opening_refusal, day_refusal, closing_refusal}
-use Rattle.methodology.specs.Register.{if_accepted, answer_by}
+use Rattle.methodology.specs.Register.{if_accepted, Answer, answer_by}
 use Rattle.quotient.specs.Ranges.{greatest_total}
 use Rattle.validation.specs.Slices.{in_places, listed}
 use Rattle.fund.specs.Shares.{plus_each}
 use Rattle.period.specs.declared.Accrued.{Accrued}
 use Rattle.period.specs.declared.Period.{Period}
-use Rattle.period.specs.declared.Reply.{Reply}
-use Rattle.period.specs.Reading.{answer_of}
 
 -- a period with this opening and no day: "M, D, the last accepted day number and all sums 0"
 abbrev pub without_days : Status → Opening → Period
@@ -64,9 +63,9 @@ opening_row p o = opening_refusal (status_of p) o
 abbrev pub opened_period : Opening → Period
 opened_period o = without_days Open (in_places o)
 
-pub record OpeningMeets (p : Period) (o : Opening) (r : Reply) : Type 0 where
-  pub answer : answer_of r.outcome ≡ answer_by (opening_row p o) []
-  pub period : r.period ≡ if_accepted (opening_row p o) (opened_period o) p
+pub record OpeningMeets (p : Period) (o : Opening) (said : Answer) (left : Period) : Type 0 where
+  pub answer : said ≡ answer_by (opening_row p o) []
+  pub period : left ≡ if_accepted (opening_row p o) (opened_period o) p
 
 -- rows 2 and 4 of a day or a closing, whose output is `room` long, where `width` numbers a member are due
 unfoldable pub output_row : Period → (width room : ℕ) → Verdict
@@ -106,11 +105,11 @@ abbrev pub sized_period : Period → DayInput → Period
 sized_period p d = with_accrued p (taken_in p.accrued d.terms (reported_by p d) (share_at p d))
 
 -- A day "returns T and Max EUL" and writes "5 numbers a member". A refused one leaves the period and the buffer as before.
-pub record DayMeets (p : Period) (d : DayInput) (before : List ℕ) (r : Reply) (after : List ℕ) : Type 0 where
+pub record DayMeets (p : Period) (d : DayInput) (before : List ℕ) (said : Answer) (left : Period) (after : List ℕ) : Type 0 where
   pub answer :
-      answer_of r.outcome
+      said
       ≡ answer_by (day_row p d (length before)) (total (held_by p) (accounts_brought p d) ∷ reported_by p d ∷ [])
-  pub period : r.period ≡ if_accepted (day_row p d (length before)) (sized_period p d) p
+  pub period : left ≡ if_accepted (day_row p d (length before)) (sized_period p d) p
   pub buffer : after ≡ if_accepted (day_row p d (length before)) (dailies (held_by p) (reported_by p d) (accounts_brought p d)) before
 
 -- ---- closing
@@ -130,9 +129,9 @@ abbrev pub closed_period : Period → Period
 closed_period p = record { status = Closed; held = p.held; accrued = p.accrued }
 
 -- A closing "returns D, M and the total funded" and writes "3 a member". A refused one leaves the period and the buffer as before.
-pub record ClosingMeets (p : Period) (before : List ℕ) (r : Reply) (after : List ℕ) : Type 0 where
+pub record ClosingMeets (p : Period) (before : List ℕ) (said : Answer) (left : Period) (after : List ℕ) : Type 0 where
   pub answer :
-      answer_of r.outcome
+      said
       ≡ answer_by (closing_row p (length before)) (p.accrued.days ∷ p.accrued.highest ∷ Σ (sums_held p) (λ sum. funded (charge_by p sum)) ∷ [])
-  pub period : r.period ≡ if_accepted (closing_row p (length before)) (closed_period p) p
+  pub period : left ≡ if_accepted (closing_row p (length before)) (closed_period p) p
   pub buffer : after ≡ if_accepted (closing_row p (length before)) (flat_map (λ s. three (charge_by p s)) (sums_held p)) before

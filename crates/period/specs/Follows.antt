@@ -2,19 +2,18 @@
 use Rattle.std.specs.Prelude.{List, ◌≡◌, ℕ, ◌≤◌, length}
 use Rattle.methodology.specs.declared.Opening.{Opening}
 use Rattle.methodology.specs.Account.{DayInput}
-use Rattle.methodology.specs.Register.{Register}
+use Rattle.methodology.specs.Register.{Register, Answer}
 use Rattle.fund.specs.Counted.{Counted}
 use Rattle.period.specs.declared.Period.{Period}
-use Rattle.period.specs.declared.Reply.{Reply}
 use Rattle.period.specs.Calls.{fresh_period, OpeningMeets, DayMeets, ClosingMeets}
 use Rattle.period.specs.Registered.{period_of}
 
 -- the periods that calls return, from a fresh one on
 pub data Reached : Period → Type 0 where
   fresh : Reached fresh_period
-  by_opening : {p : Period} {o : Opening} {r : Reply} → Reached p → OpeningMeets p o r → Reached r.period
-  by_day : {p : Period} {d : DayInput} {before : List ℕ} {r : Reply} {after : List ℕ} → Reached p → DayMeets p d before r after → Reached r.period
-  by_closing : {p : Period} {before : List ℕ} {r : Reply} {after : List ℕ} → Reached p → ClosingMeets p before r after → Reached r.period
+  by_opening : {p left : Period} {o : Opening} {said : Answer} → Reached p → OpeningMeets p o said left → Reached left
+  by_day : {p left : Period} {d : DayInput} {before after : List ℕ} {said : Answer} → Reached p → DayMeets p d before said left after → Reached left
+  by_closing : {p left : Period} {before after : List ℕ} {said : Answer} → Reached p → ClosingMeets p before said left after → Reached left
 
 -- what every register that calls lead to holds
 pub record Good (g : Register) : Type 0 where

@@ -4,16 +4,24 @@ use Rattle.std.specs.Prelude.{List, [], ◌∷◌, ℕ, Result, Ok, Err}
 use Rattle.methodology.specs.declared.Opening.{Opening}
 use Rattle.methodology.specs.declared.Refusal.{Refusal}
 use Rattle.methodology.specs.Register.{Answer, accepted, refused_by}
-use Rattle.period.specs.declared.Accepted.{Accepted}
-use Rattle.period.specs.declared.Accepted.TheVariants.{Opened, Sized, Closed}
+use Rattle.period.specs.declared.DayReturns.{DayReturns}
+use Rattle.period.specs.declared.ClosingReturns.{ClosingReturns}
 
 -- what an opening call brings
 abbrev pub brought : (n k : ℕ) → (groups : List ℕ) → Opening
 brought n k groups = record { n = n; k = k; groups = groups }
 
--- Document 01's answer for each case of an outcome: its values in document 01's order, or its refusal's number and index.
-abbrev pub answer_of : Result Accepted Refusal → Answer
-answer_of (Ok Opened) = accepted []
-answer_of (Ok (Sized total max)) = accepted (total ∷ max ∷ [])
-answer_of (Ok (Closed days highest funds)) = accepted (days ∷ highest ∷ funds ∷ [])
-answer_of (Err refusal) = refused_by refusal
+-- what an accepted call returns, in document 01's order; an opening returns nothing
+abbrev pub opening_returned : Unit {0} → List ℕ
+opening_returned _ = []
+
+abbrev pub day_returned : DayReturns → List ℕ
+day_returned r = r.total ∷ r.max ∷ []
+
+abbrev pub closing_returned : ClosingReturns → List ℕ
+closing_returned r = r.days ∷ r.highest ∷ r.funds ∷ []
+
+-- document 01's answer for an outcome: what the call returned, or its refusal's number and index
+abbrev pub answer_of : {A : Type 0} → (returned : A → List ℕ) → Result A Refusal → Answer
+answer_of returned (Ok figures) = accepted (returned figures)
+answer_of returned (Err refusal) = refused_by refusal

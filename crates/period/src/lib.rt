@@ -5,7 +5,7 @@ ghost use Rattle.std.specs.Prelude.{◌≡◌, map, ◌≤◌, ltb, length, get_
 ghost use Rattle.std.specs.List.{list_any, range_with_len};
 ghost use Rattle.methodology.specs.Brought.{day_brought};
 ghost use Rattle.methodology.specs.Refusals.{is_open};
-ghost use Rattle.period.specs.Reading.{brought};
+ghost use Rattle.period.specs.Reading.{brought, answer_of, opening_returned, day_returned, closing_returned};
 ghost use Rattle.period.specs.Calls.{without_days, fresh_period, in_range, status_of, OpeningMeets, output_row, DayMeets, ClosingMeets};
 
 use methodology::{Day, Opening, Refusal, Status};
@@ -30,19 +30,27 @@ pub struct Accrued {
     sums: [u64; 32],
 }
 
-// What an accepted call returns: a day's T and the Max EUL that it reports, or a closing's D, M and total funded.
+// What an accepted day returns: "T and Max EUL".
 #[derive(Clone, Copy, Debug, PartialEq, Eq)]
-pub enum Accepted {
-    Opened,
-    Sized(u64, u64),
-    Closed(u64, u64, u64),
+pub struct DayReturns {
+    pub total: u64,
+    pub max: u64,
 }
 
-// What a call says, beside the period that it leaves. `answer_of` in specs/Reading.antt gives document 01's number and values for each case.
+// What an accepted closing returns: "D, M and the total funded".
+#[derive(Clone, Copy, Debug, PartialEq, Eq)]
+pub struct ClosingReturns {
+    pub days: u64,
+    pub highest: u64,
+    pub funds: u64,
+}
+
+// What a call says, T where it is accepted, beside the period that it leaves. `answer_of` in specs/Reading.antt gives document 01's
+// answer for it.
 #[derive(Clone, Copy)]
-pub struct Reply {
+pub struct Reply<T> {
     pub period: Period,
-    pub outcome: Result<Accepted, Refusal>,
+    pub outcome: Result<T, Refusal>,
 }
 
 // No day's total, and so no Max EUL, is above this: 256 accounts of at most 3 · 10^12 each.
@@ -134,8 +142,8 @@ impl Period {
     }
 
     // What `opening` does to a period.
-    fn open(&mut self, n: u64, k: u64, groups: &[u64]) -> Result<Accepted, Refusal>
-        ensures { OpeningMeets self.old (brought n k groups.now) (record { period = self.new; outcome = result }) }
+    fn open(&mut self, n: u64, k: u64, groups: &[u64]) -> Result<(), Refusal>
+        ensures { OpeningMeets self.old (brought n k groups.now) (answer_of opening_returned result) self.new }
     {
         if self.is_open() {
             return Err(Refusal::OutOfTurn);
@@ -149,13 +157,13 @@ impl Period {
             groups: group_places(groups),
         };
         *self = Period::without_days(Status::Open, opening);
-        Ok(Accepted::Opened)
+        Ok(())
     }
 
     // What `day` does to a period: its number, the Max EUL that it reports, which M is then, and the shares that stand in what it writes are
     // taken in.
-    fn size(&mut self, day: &Day, out: &mut [u64]) -> Result<Accepted, Refusal>
-        ensures { DayMeets self.old (day_brought day.now) out.old (record { period = self.new; outcome = result }) out.new }
+    fn size(&mut self, day: &Day, out: &mut [u64]) -> Result<DayReturns, Refusal>
+        ensures { DayMeets self.old (day_brought day.now) out.old (answer_of day_returned result) self.new out.new }
     {
         self.output_row(5, out.len())?;
         validation::day_rows(self.held, self.accrued.last, day)?;
@@ -173,12 +181,15 @@ impl Period {
             highest: reported,
             sums: fund::with_shares(self.accrued.sums, n, out),
         };
-        Ok(Accepted::Sized(total, reported))
+        Ok(DayReturns {
+            total,
+            max: reported,
+        })
     }
 
     // What `closing` does to a period.
-    fn close(&mut self, out: &mut [u64]) -> Result<Accepted, Refusal>
-        ensures { ClosingMeets self.old out.old (record { period = self.new; outcome = result }) out.new }
+    fn close(&mut self, out: &mut [u64]) -> Result<ClosingReturns, Refusal>
+        ensures { ClosingMeets self.old out.old (answer_of closing_returned result) self.new out.new }
     {
         self.output_row(3, out.len())?;
         let n = self.held.n as usize;
@@ -186,12 +197,16 @@ impl Period {
         let highest = self.accrued.highest;
         let funds = fund::write_contributions(&self.accrued.sums[..n], highest, days, out);
         self.status = Status::Closed;
-        Ok(Accepted::Closed(days, highest, funds))
+        Ok(ClosingReturns {
+            days,
+            highest,
+            funds,
+        })
     }
 
     // "Opening takes n, k and groups, and is accepted when fresh or closed, with M, D, the last accepted day number and all sums 0."
-    pub fn opening(mut self, n: u64, k: u64, groups: &[u64]) -> Reply
-        ensures { OpeningMeets self (brought n k groups.now) result }
+    pub fn opening(mut self, n: u64, k: u64, groups: &[u64]) -> Reply<()>
+        ensures { OpeningMeets self (brought n k groups.now) (answer_of opening_returned result.outcome) result.period }
     {
         let outcome = self.open(n, k, groups);
         Reply {
@@ -202,8 +217,8 @@ impl Period {
 
     // "A day writes 5 numbers a member (e, share, value, reserve, estimate), each member's five into its own stretch of the lent buffer, and
     // returns T and Max EUL."
-    pub fn day(mut self, day: &Day, out: &mut [u64]) -> Reply
-        ensures { DayMeets self (day_brought day.now) out.old result out.new }
+    pub fn day(mut self, day: &Day, out: &mut [u64]) -> Reply<DayReturns>
+        ensures { DayMeets self (day_brought day.now) out.old (answer_of day_returned result.outcome) result.period out.new }
     {
         let outcome = self.size(day, out);
         Reply {
@@ -214,8 +229,8 @@ impl Period {
 
     // "Closing writes 3 a member (raw, funded, unfunded) and returns D, M and the total funded; the period is then closed and otherwise as
     // before."
-    pub fn closing(mut self, out: &mut [u64]) -> Reply
-        ensures { ClosingMeets self out.old result out.new }
+    pub fn closing(mut self, out: &mut [u64]) -> Reply<ClosingReturns>
+        ensures { ClosingMeets self out.old (answer_of closing_returned result.outcome) result.period out.new }
     {
         let outcome = self.close(out);
         Reply {

@@ -23,7 +23,6 @@ use Rattle.methodology.specs.Register.{Call, Register, start, last_number, refus
 use Rattle.methodology.proofs.Passed.{loss_stands, step_clear, opened_anew}
 use Rattle.methodology.proofs.SoFar.{reported_is_m, reported_more}
 use Rattle.fund.proofs.RawCharge.{highest_none}
-use Rattle.period.specs.Reading.{answer_of}
 use Rattle.demand3.specs.Made.{Asked, Made, call_of}
 use Rattle.demand3.specs.Demand3.{Holds, register_after, Fits64}
 use Rattle.demand3.proofs.EveryList.{holds_from, last_agrees, from_answers_lem}
@@ -102,7 +101,7 @@ unfolding refusal
 some_loss g d room passes = (loss_stands g.status g.held (last_number g.days) d room passes).1
 
 of_day : (cs : List Made) (c : Made) (d : DayInput) (out : List ℕ) (T Max : ℕ) → Holds start (cs ++ (c ∷ []))
-    → c.asked ≡ Asked.day d out → answer_of c.reply.outcome ≡ accepted (T ∷ Max ∷ [])
+    → c.asked ≡ Asked.day d out → c.answer ≡ accepted (T ∷ Max ∷ [])
     → DayReports (register_after start cs) (noted cs) d T Max c.after
 unfolding answer buffer accept returned written dailies greatest
 of_day cs c d out T Max holds is said =
@@ -139,7 +138,7 @@ of_day cs c d out T Max holds is said =
     }
 
 of_closing : (cs : List Made) (c : Made) (out : List ℕ) (D M funds : ℕ) → Holds start (cs ++ (c ∷ []))
-    → c.asked ≡ Asked.closing out → answer_of c.reply.outcome ≡ accepted (D ∷ M ∷ funds ∷ [])
+    → c.asked ≡ Asked.closing out → c.answer ≡ accepted (D ∷ M ∷ funds ∷ [])
     → MIsTheSame (owns (register_after start cs).held (register_after start cs).days) (noted cs) M
 unfolding answer accept returned
 of_closing cs c out D M funds holds is said =
@@ -163,7 +162,7 @@ begins_anew cs a rest o holds is passes =
     let g = register_after start cs in
     let (agreed, _, after) = holds_from start cs (a ∷ rest) holds in
     let left : step g (call_of a.asked) ≡ opened_by o = rw is (opened_anew g o passes) in
-    let said : answer_of a.reply.outcome ≡ accepted [] = agreed.answer ∙ rw (is, passes) in
+    let said : a.answer ≡ accepted [] = agreed.answer ∙ rw (is, passes) in
     (subst (λ (g : Register). Holds g rest) left after, fold-append _ [] cs (a ∷ rest) ∙ rw (said, is))
 
 -- ---- the claim

@@ -19,7 +19,6 @@ use Rattle.methodology.specs.Day.{total, own_max_eul, value, reserve, estimate, 
 use Rattle.methodology.specs.Contribution.{KeptDay, reported_max_eul, highest}
 use Rattle.methodology.specs.Refusals.{clear}
 use Rattle.methodology.specs.Register.{Call, Register, start, refusal, accepted}
-use Rattle.period.specs.Reading.{answer_of}
 use Rattle.period.specs.Calls.{fresh_period}
 use Rattle.demand3.specs.Made.{Asked, Made, MadeOn}
 use Rattle.demand3.specs.Demand3.{Holds, register_after, from_answers, Fits64}
@@ -94,11 +93,11 @@ pub record HighestSoFar : Type 2 where
       → Nearest (value e Max T) (100 * e * Max) T × Nearest (reserve e Max T) (110 * e * Max) T × Nearest (estimate e Max T) (220 * e * Max) T
   -- every accepted day of every list of calls
   pub day_reports : (cs : List Made) (c : Made) (d : DayInput) (out : List ℕ) (T Max : ℕ) → MadeOn fresh_period (cs ++ (c ∷ []))
-      → c.asked ≡ Asked.day d out → answer_of c.reply.outcome ≡ accepted (T ∷ Max ∷ [])
+      → c.asked ≡ Asked.day d out → c.answer ≡ accepted (T ∷ Max ∷ [])
       → DayReports (register_after start cs) (noted cs) d T Max c.after
   -- and every accepted closing: "M does not change"
   pub closing_returns : (cs : List Made) (c : Made) (out : List ℕ) (D M funds : ℕ) → MadeOn fresh_period (cs ++ (c ∷ []))
-      → c.asked ≡ Asked.closing out → answer_of c.reply.outcome ≡ accepted (D ∷ M ∷ funds ∷ [])
+      → c.asked ≡ Asked.closing out → c.answer ≡ accepted (D ∷ M ∷ funds ∷ [])
       → let g = register_after start cs in
       MIsTheSame (owns g.held g.days) (noted cs) M
   -- An accepted opening begins anew: of the calls after it demand 3 holds from a register that knows this opening alone, and what is noted
@@ -110,12 +109,12 @@ pub record HighestSoFar : Type 2 where
   pub compiled_day :
       {R : Type 1} {𝓤 : Ura R} (𝓛 : Logic 𝓤) (mem : Memory → SProp 𝓤) (run : Routine → Fun 𝓤)
       (cs : List Called) (c : Called) (d : DayInput) (out : List ℕ) (T Max : ℕ) → FromFresh 𝓛 mem run (cs ++ (c ∷ []))
-      → (made_of c).asked ≡ Asked.day d out → answer_of (made_of c).reply.outcome ≡ accepted (T ∷ Max ∷ [])
+      → (made_of c).asked ≡ Asked.day d out → (made_of c).answer ≡ accepted (T ∷ Max ∷ [])
       → DayReports (register_after start (map made_of cs)) (noted (map made_of cs)) d T Max (made_of c).after
   pub compiled_closing :
       {R : Type 1} {𝓤 : Ura R} (𝓛 : Logic 𝓤) (mem : Memory → SProp 𝓤) (run : Routine → Fun 𝓤)
       (cs : List Called) (c : Called) (out : List ℕ) (D M funds : ℕ) → FromFresh 𝓛 mem run (cs ++ (c ∷ []))
-      → (made_of c).asked ≡ Asked.closing out → answer_of (made_of c).reply.outcome ≡ accepted (D ∷ M ∷ funds ∷ [])
+      → (made_of c).asked ≡ Asked.closing out → (made_of c).answer ≡ accepted (D ∷ M ∷ funds ∷ [])
       → let g = register_after start (map made_of cs) in
       MIsTheSame (owns g.held g.days) (noted (map made_of cs)) M
   pub compiled_anew :
