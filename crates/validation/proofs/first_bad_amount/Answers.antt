@@ -1,23 +1,11 @@
 -- `first_bad_amount` meets its contract. The invariant: no account before i is bad.
-use mathlib.Core.Path.{◌≡◌, sym, ◌∙◌}
-use Prim.Native.Nat.{ℕ, ◌+◌, ◌*◌, ◌≤◌, ◌<◌}
+use mathlib.Core.Path.{sym, ◌∙◌}
 use native.Mathlib.Omega.{arith}
-use native.Mathlib.Nat.{mul-le-mul_right}
 use Rattle.std.proofs.lemmas.Bool.Decides.{nat_tests}
 use Rattle.numbers.proofs.Lists.{none_before}
 use Rattle.methodology.specs.Brought.{day_brought}
 use Rattle.validation.proofs.Amounts.{amount_more, amount_stop, amount_end}
 use Rattle.validation.proofs.first_bad_amount.Goals as goal
-
--- the row of account i lies within the NPVs
-room : (i k n m : ℕ) → i < m → n ≡ m * (k + 1) → i * (k + 1) + (k + 1) ≤ n
-room i k n m l e = omega (arith, mul-le-mul_right (k + 1) l)
-
-pub overflow_mul-at : goal.overflow_mul-at
-overflow_mul-at c = omega (arith, room _ _ _ _ c.loop-i-test.true c.requires.npvs_len)
-
-pub slice_bounds-bad_amounts-end : goal.slice_bounds-bad_amounts-end
-slice_bounds-bad_amounts-end c = omega (arith, room _ _ _ _ c.loop-i-test.true c.requires.npvs_len)
 
 pub loop-i-init : goal.loop-i-init
 loop-i-init c = none_before _ _ _

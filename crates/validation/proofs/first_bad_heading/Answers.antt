@@ -9,6 +9,3 @@ returns-then-bad_heading c = grind (arith, nat_tests, search_stop)
 
 pub loop-i-preserved : goal.loop-i-preserved
 loop-i-preserved c = grind (arith, nat_tests, search_more)
-
-pub returns : goal.returns
-returns c = grind (arith, nat_tests)

@@ -1,6 +1,5 @@
 -- `member_losses` meets its contract: the pass of `LossPass`, member by member. The losses are the part that is filled, and zeros.
 use mathlib.Core.Path.{◌≡◌, refl}
-use mathlib.Core.List.{◌++◌}
 use Prim.Native.Nat.{ℕ, ◌≤◌}
 use native.Mathlib.Omega.{arith}
 use lib.ListN.{replicate}
@@ -10,7 +9,7 @@ use Rattle.std.proofs.lemmas.List.{set-append_left, take-append-drop}
 use Rattle.numbers.proofs.Signed.{back_ok}
 use Rattle.exposure.specs.AccountsIn.{slices_in}
 use Rattle.exposure.proofs.Left.{from_first, left_first, left_own, left_next}
-use Rattle.exposure.proofs.LossPass.{loss_none, loss_more, loss_all, sum_small}
+use Rattle.exposure.proofs.LossPass.{loss_none, loss_more}
 use Rattle.exposure.proofs.day.member_losses.Goals as goal
 
 part_long : (n : ℕ) → n ≤ 32 → length {A = ℕ} (take n (replicate 32 0)) ≡ n
@@ -24,15 +23,6 @@ loop-i-init c =
 pub split-requires : goal.split-requires
 split-requires c = left_first c.loop-i.invariant.place
 
-pub overflow_add-total : goal.overflow_add-total
-overflow_add-total c =
-    let s = c.split in
-    let p = c.loop-i.invariant in
-    let e = c.eul in
-    let loss = rw (back_ok w64 e.result e.type_inv) at c.gain.ensures in
-    let own = left_own p.place s.result.0 s.ensures.own in
-    omega (arith, part_long c.args.n c.requires, sum_small p s.result.0 s.result.1 own e.result _ e.ensures.is e.ensures.bound loss, c.loop-i-test.true, c.requires)
-
 pub loop-i-preserved : goal.loop-i-preserved
 loop-i-preserved c =
     let s = c.split in
@@ -43,8 +33,3 @@ loop-i-preserved c =
     rw (← set-append_left c.loop-i.loss-items _ c.loop-i.i _ (omega (arith, c.loop-i-test.true)))
     (loss_more p s.result.0 s.result.1 own e.result _ e.ensures.is e.ensures.bound loss (omega (arith, part_long c.args.n c.requires, c.loop-i-test.true, c.requires))
     (left_next p.place s.result.1 s.ensures.others))
-
-pub returns : goal.returns
-returns c =
-    let long = part_long c.args.n c.requires in
-    loss_all c.loop-i.invariant c.args.n (omega (arith, long)) (omega (arith, long, c.loop-i-test.false))

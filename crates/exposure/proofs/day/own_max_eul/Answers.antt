@@ -26,12 +26,6 @@ loop-i-init c =
 pub split-requires : goal.split-requires
 split-requires c = left_first c.loop-i.invariant.place
 
-pub row_greatest-requires : goal.row_greatest-requires
-row_greatest-requires c =
-    let s = c.split in
-    let p = c.loop-i.invariant in
-    row_long _ _ p s.result.0 s.result.1 _ (left_own p.place s.result.0 s.ensures.own) c.row-row.ensures
-
 pub add_row-requires : goal.add_row-requires
 add_row-requires c =
     let s = c.split in
@@ -52,9 +46,6 @@ loop-i-preserved c =
     rw (c.add_row.ensures, group)
     (max_more _ _ p s.result.0 s.result.1 _ (left_own p.place s.result.0 s.ensures.own) c.row-row.ensures h c.requires.0.scenarios_few (c.requires.1.few _ h)
     (left_next p.place s.result.1 s.ensures.others) _ _ c.row_greatest.ensures c.max-top.ensures)
-
-pub rows_greatest-requires : goal.rows_greatest-requires
-rows_greatest-requires c = rows_shape _ _ c.loop-i.invariant (omega (arith, c.requires.0.members_few))
 
 pub returns : goal.returns
 returns c =

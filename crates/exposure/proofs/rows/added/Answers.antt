@@ -3,18 +3,10 @@ use borrow.Author.Rules.{rules}
 use native.Mathlib.Omega.{arith}
 use lib.IntN.{pos}
 use Rattle.numbers.proofs.Signed.{back}
-use Rattle.numbers.proofs.Filling.{filled_none, filled_more, filled_all}
+use Rattle.numbers.proofs.Filling.{filled_more, filled_all}
 use Rattle.exposure.proofs.Tables.{near_back, sum_fits}
 use Rattle.exposure.specs.GroupRows.{plus}
 use Rattle.exposure.proofs.rows.added.Goals as goal
-
-pub loop-j-init : goal.loop-j-init
-loop-j-init c = filled_none 16 _ (pos 0) _ c.requires.first_long
-
-pub overflow_add-sum : goal.overflow_add-sum
-overflow_add-sum c =
-    let l = c.loop-j in
-    rw (l.invariant.rest l.j (omega arith), near_back c.requires.first l.j, near_back c.requires.second l.j) (sum_fits c.requires.first c.requires.second l.j)
 
 pub loop-j-preserved : goal.loop-j-preserved
 loop-j-preserved c =

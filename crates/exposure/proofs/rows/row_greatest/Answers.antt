@@ -4,7 +4,6 @@ use mathlib.Core.Path.{refl, ◌∙◌}
 use native.Mathlib.Omega.{arith}
 use lib.IntN.{pos}
 use lib.ListN.{get_or}
-use lib.Seq.{take_all}
 use mir.Syntax.{w64}
 use mir.Val.{SFits}
 use Rattle.numbers.specs.Signed.{◌⁺}
@@ -23,8 +22,3 @@ loop-x-preserved c =
     let f : SFits w64 (get_or c.args.row l.x-index (pos 0)) = search rules in
     let g = rw (back f) at c.gain.ensures in
     c.max-most.ensures ∙ greatest_more c.args.row l.x-index (pos 0) (λ z. z ⁺) _ _ (omega (arith, c.requires)) l.invariant g
-
-pub returns : goal.returns
-returns c =
-    let l = c.loop-x in
-    rw (take_all l.x-index c.args.row (omega (arith, c.requires))) at l.invariant

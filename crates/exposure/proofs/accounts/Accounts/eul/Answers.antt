@@ -34,11 +34,6 @@ loop-i-preserved c =
     let e = c.eul-own in
     pass_more a.k c.args.scenario (slices_in a) a.within c.loop-i.invariant c.loop-i-test.true c.requires _ e.result c.fall-fall.ensures e.type_inv e.ensures _ c.with-tally.ensures
 
-pub eul-requires : goal.eul-requires
-eul-requires c =
-    let a = c.args.self.now in
-    pass_small a.k c.args.scenario (slices_in a) a.within c.loop-i.invariant c.loop-i.auto.i-end
-
 pub returns : goal.returns
 returns c =
     let a = c.args.self.now in

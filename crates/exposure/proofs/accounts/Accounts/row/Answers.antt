@@ -1,8 +1,7 @@
 -- `Accounts::row` meets its contract: the pass of `RowPass`, scenario by scenario. The row is the part that is filled, and zeros.
-use mathlib.Core.List.{◌++◌}
 use Prim.Native.Nat.{ℕ, ◌≤◌}
 use native.Mathlib.Omega.{arith}
-use lib.IntN.{ℤ, pos}
+use lib.IntN.{pos}
 use lib.ListN.{replicate}
 use mathlib.Core.Path.{◌≡◌}
 use Rattle.std.proofs.Common.{length, take, length-take-le}
