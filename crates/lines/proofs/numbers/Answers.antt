@@ -1,7 +1,7 @@
 -- `numbers` meets its contract. The invariant: the first j values are none of them negative, and stand among the numbers.
-use Rattle.std.proofs.Common.{◌<◌, ℕ, ℤ, length, get_or, pos, rules, arith}
+use Rattle.std.proofs.Common.{◌<◌, length, get_or, pos, rules, arith}
 use Rattle.std.proofs.lemmas.List.{length-replicate}
-use Rattle.lines.proofs.Readers.{natural_none, natural_some, copied_none, copied_more, no_numbers, some_negative, all_natural}
+use Rattle.lines.proofs.Readers.{natural_none, natural_some, copied_more, no_numbers, some_negative, all_natural}
 use Rattle.lines.proofs.numbers.Goals as goal
 
 pub returns-in_err-rest : goal.returns-in_err-rest
