@@ -119,4 +119,4 @@ something_after g at i (x ∷ s) h = by (has LF (x ∷ s)) refl
     by true k = line_there i (x ∷ s) (after_end g at) k ∙ ap (λ (r : Read). followed_by r (report_from (i + 1) (split LF (after LF (x ∷ s))))) (cond_same (bad_bytes (before LF (x ∷ s))) (bad i))
     by false k =
         let all : before LF (x ∷ s) ≡ x ∷ s = take_all (index_of LF (x ∷ s)) (x ∷ s) (ltb-false _ _ k) in
-        line_missing i (x ∷ s) (after_end g at) k ∙ rw all
+        line_missing i (x ∷ s) (after_end g at) k ∙ ap (at_end (after_end g at) i) all
