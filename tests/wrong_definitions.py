@@ -149,8 +149,8 @@ Refusals.first_bad_heading | suc (first_bad_heading n h hs) | suc (first_bad_hea
 Refusals.bad_amount | list_any npv_outside a.npvs | list_any npv_outside (drop 1 a.npvs)
 Refusals.bad_amount | list_any npv_outside a.npvs | list_any npv_outside (take 2 a.npvs)
 Refusals.opening_refusal | row OutOfTurn when is_open s else row BadOpening when bad_opening o | row BadOpening when bad_opening o else row OutOfTurn when is_open s
-Numbers.row_index | (BadHeading index) = Some index | (BadHeading index) = None
-Numbers.row_index | (BadAmount index) = Some index | (BadAmount index) = None
+RowNumbers.row_index | (BadHeading index) = Some index | (BadHeading index) = None
+RowNumbers.row_index | (BadAmount index) = Some index | (BadAmount index) = None
 Register.step | if_accepted (refusal g c) (accept g c) g | accept g c
 Register.buffer | if_accepted (refusal g c) (written (step g c) c) before | written (step g c) c
 Contribution.raw | (length days) | (length (take 3 days))

@@ -8,7 +8,7 @@ use lib.ListN.{length}
 use Rattle.std.specs.Prelude.{Option, Some, None}
 use Rattle.std.specs.List.{AllByRecursion}
 use Rattle.methodology.specs.declared.Refusal.{Refusal}
-use Rattle.methodology.specs.Numbers.{row_index}
+use Rattle.methodology.specs.RowNumbers.{row_index}
 use Rattle.methodology.specs.Account.{DayInput}
 use Rattle.methodology.specs.Day.{dailies}
 use Rattle.methodology.specs.Register.{accepted, refused_by}

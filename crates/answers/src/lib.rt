@@ -6,7 +6,7 @@ mod totals;
 
 ghost use Rattle.std.specs.Prelude.{◌*◌, ◌≤◌, ◌<◌, ◌^◌, length};
 ghost use Rattle.std.specs.List.{AllByRecursion};
-ghost use Rattle.methodology.specs.Numbers.{row_index};
+ghost use Rattle.methodology.specs.RowNumbers.{row_index};
 ghost use Rattle.methodology.specs.Text.{refused_line, line_named, totals, day_lines, fund_lines};
 ghost use Rattle.report.specs.Prints.{Prints};
 ghost use Rattle.period.specs.Reading.{day_returned, closing_returned};

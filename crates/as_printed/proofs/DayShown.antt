@@ -12,7 +12,7 @@ use Rattle.numbers.proofs.Sums.{Σ-map}
 use Rattle.methodology.specs.Account.{members}
 use Rattle.methodology.specs.Text.{bytes, same, stretch, refused_line, rows, column_sum, totals, day_lines, fund_lines}
 use Rattle.methodology.specs.declared.Refusal.{Refusal}
-use Rattle.methodology.specs.Numbers.{row_number}
+use Rattle.methodology.specs.RowNumbers.{row_number}
 use Rattle.methodology.proofs.RowLimits.{occurs, at_most_9, row_occurs}
 use Rattle.demand3.specs.Demand3.{Fits64}
 use Rattle.as_printed.specs.AsPrinted.{Line, worded, DayRead, lines_of_day, AddsUp, Other, Counts}

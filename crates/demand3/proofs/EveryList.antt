@@ -6,7 +6,7 @@ use native.Mathlib.Omega.{arith}
 use lib.ListN.{length}
 use Rattle.std.specs.Prelude.{Option, Some, None, Ok, Err}
 use Rattle.methodology.specs.declared.Opening.{Opening}
-use Rattle.methodology.specs.Numbers.{row_number, row_index}
+use Rattle.methodology.specs.RowNumbers.{row_number, row_index}
 use Rattle.methodology.specs.Refusals.{Verdict, clear}
 use Rattle.methodology.specs.Register.{Call, Register, refusal, accept, if_accepted, step, returned, written, Answer, accepted, refused_with, answer_by, answer, buffer}
 use Rattle.methodology.proofs.Passed.{step_clear, either}

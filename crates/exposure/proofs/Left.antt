@@ -14,7 +14,7 @@ use Rattle.numbers.proofs.Lists.{keep_part}
 use Rattle.methodology.specs.Account.{DayInput, Account, accounts}
 use Rattle.methodology.specs.Member.{accounts_of}
 use Rattle.methodology.proofs.RowLimits.{accounts_long}
-use Rattle.validation.specs.Slices.{Rising, none}
+use Rattle.validation.specs.Slices.{Rising, no_account}
 use Rattle.exposure.specs.declared.accounts.Accounts.{Accounts}
 use Rattle.exposure.specs.MemberCut.{from_member}
 use Rattle.exposure.specs.AccountsIn.{accounts_in}
@@ -44,7 +44,7 @@ pub from_first : (k : ℕ) (d : DayInput) → Rising d.headings → accounts k d
 unfolding from_member
 from_first k d r =
     let accts = accounts k d in
-    let all = keep_part (λ a. leb 1 a.heading.member) accts none 0 (length accts) (omega arith) (omega arith) (λ i h. absurd (omega arith))
+    let all = keep_part (λ a. leb 1 a.heading.member) accts no_account 0 (length accts) (omega arith) (omega arith) (λ i h. absurd (omega arith))
     (λ i h l. le-leb 1 _ (rw (member_get k d i (omega (arith, accounts_long k d))) (r.least i (omega (arith, accounts_long k d)))))
     (λ i h l. absurd (omega arith)) in
     rw (all, sub-zero, take_all (length accts) accts (omega arith))

@@ -23,7 +23,7 @@ use Rattle.methodology.specs.Account.{DayInput, Account, account_at, accounts, n
 use Rattle.methodology.specs.Member.{is_client, is_r, house_eul, half_of_clients, two_largest_of_r, part_b, part_c, member_eul}
 use Rattle.methodology.specs.Refusals.{limit}
 use Rattle.methodology.proofs.RowLimits.{accounts_long}
-use Rattle.validation.specs.Slices.{none, Within}
+use Rattle.validation.specs.Slices.{no_account, Within}
 use Rattle.validation.proofs.Amounts.{accounts_at}
 use Rattle.exposure.specs.declared.account.Scenario.{Scenario}
 use Rattle.exposure.specs.declared.member.Tally.{Tally}
@@ -116,7 +116,7 @@ module _ (k : ℕ) (s : Scenario) (d : DayInput) {t : Tally} {i : ℕ}
       next : drop i (accounts k d) ≡ account_at k d i ∷ drop (i + 1) (accounts k d)
       next =
           let inside : i < length (accounts k d) = omega (arith, accounts_long k d) in
-          rw (add-one i, ← accounts_at k d i h) (drop-cons (accounts k d) i none inside)
+          rw (add-one i, ← accounts_at k d i h) (drop-cons (accounts k d) i no_account inside)
 
       pub pass_more : (r : Tally) → TallyWith t (get_or d.headings i nobody).kind (to_z w64 (of_z w64 e)) r → Pass (eul_by k s) (accounts k d) r (i + 1)
       pass_more r c =

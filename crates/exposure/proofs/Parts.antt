@@ -17,7 +17,7 @@ use Rattle.methodology.specs.declared.Heading.{Heading}
 use Rattle.methodology.specs.Account.{DayInput, Account, account_at, accounts, nobody}
 use Rattle.methodology.specs.Member.{accounts_of}
 use Rattle.methodology.proofs.RowLimits.{accounts_long}
-use Rattle.validation.specs.Slices.{Rising, none}
+use Rattle.validation.specs.Slices.{Rising, no_account}
 use Rattle.validation.proofs.Amounts.{accounts_at}
 use Rattle.validation.proofs.Parts.{accounts_part}
 use Rattle.exposure.specs.MemberCut.{from_member}
@@ -38,7 +38,7 @@ part_accounts k d a b h l =
 
 -- the member of each
 pub member_get : (k : ℕ) (d : DayInput) (i : ℕ) → i < length d.headings
-    → (get_or (accounts k d) i none).heading.member ≡ (get_or d.headings i nobody).member
+    → (get_or (accounts k d) i no_account).heading.member ≡ (get_or d.headings i nobody).member
 unfolding account_at
 member_get k d i h = ap (λ (a : Account). a.heading.member) (accounts_at k d i h)
 
@@ -57,8 +57,8 @@ module _ (k m : ℕ) (d : DayInput) where
   least : accounts k d ≡ from_member m (accounts k d) → (i : ℕ) → i < length d.headings → m ≤ (get_or d.headings i nobody).member
   unfolding from_member
   least e i h =
-      let here = mem_at (accounts k d) none {i = i} (omega (arith, accounts_long k d)) in
-      let (_, t) = mem_keep (λ a. leb m a.heading.member) (accounts k d) (subst (λ (l : List Account). get_or (accounts k d) i none ∈ l) e here) in
+      let here = mem_at (accounts k d) no_account {i = i} (omega (arith, accounts_long k d)) in
+      let (_, t) = mem_keep (λ a. leb m a.heading.member) (accounts k d) (subst (λ (l : List Account). get_or (accounts k d) i no_account ∈ l) e here) in
       rw (member_get k d i h) at (leb-true m _ t)
 
   module _ (r : Rising d.headings) (e : accounts k d ≡ from_member m (accounts k d)) (found : Option ℕ) (f : found ≡ position (other m) d.headings) (end : ℕ) (g : end ≡ unwrap_or found (length d.headings)) where
@@ -68,12 +68,12 @@ module _ (k m : ℕ) (d : DayInput) where
     pub end_inside : end ≤ length d.headings
     end_inside = omega (arith, q, prefix_len-le-length (λ h. not (other m h)) d.headings)
 
-    before : (i : ℕ) → i < end → (get_or (accounts k d) i none).heading.member ≡ m
+    before : (i : ℕ) → i < end → (get_or (accounts k d) i no_account).heading.member ≡ m
     before i h =
         rw (member_get k d i (omega (arith, end_inside)))
         (eqb-true _ m (not-false _ (fails_before_first (other m) d.headings i nobody (omega (arith, q)))))
 
-    after : (i : ℕ) → end ≤ i → i < length (accounts k d) → m < (get_or (accounts k d) i none).heading.member
+    after : (i : ℕ) → end ≤ i → i < length (accounts k d) → m < (get_or (accounts k d) i no_account).heading.member
     after i h l =
         let n : i < length d.headings = omega (arith, accounts_long k d) in
         let stop : end < length d.headings = omega arith in
@@ -83,14 +83,14 @@ module _ (k m : ℕ) (d : DayInput) where
     pub own_first : accounts_of m (accounts k d) ≡ between 0 end (accounts k d)
     unfolding accounts_of
     own_first =
-        keep_part (λ a. eqb a.heading.member m) (accounts k d) none 0 end (omega arith) (omega (arith, end_inside, accounts_long k d)) (λ i h. absurd (omega arith))
+        keep_part (λ a. eqb a.heading.member m) (accounts k d) no_account 0 end (omega arith) (omega (arith, end_inside, accounts_long k d)) (λ i h. absurd (omega arith))
         (λ i h l. eq-eqb _ m (before i l))
         (λ i h l. ne_eqb _ m (λ z. omega (arith, after i h l)))
 
     pub others_last : from_member (m + 1) (accounts k d) ≡ between end (length d.headings) (accounts k d)
     unfolding from_member
     others_last =
-        keep_part (λ a. leb (m + 1) a.heading.member) (accounts k d) none end (length d.headings) end_inside (omega (arith, accounts_long k d))
+        keep_part (λ a. leb (m + 1) a.heading.member) (accounts k d) no_account end (length d.headings) end_inside (omega (arith, accounts_long k d))
         (λ i h. lt-leb (m + 1) _ (omega (arith, before i h)))
         (λ i h l. le-leb (m + 1) _ (omega (arith, after i h (omega (arith, accounts_long k d)))))
         (λ i h l. absurd (omega (arith, accounts_long k d)))

@@ -17,7 +17,7 @@ use Rattle.methodology.specs.declared.Refusal.{Refusal}
 use Rattle.methodology.specs.declared.Refusal.TheVariants.{BadOpening, BadLengths, BadLine}
 use Rattle.methodology.specs.declared.Opening.{Opening}
 use Rattle.methodology.specs.Account.{with_groups, DayInput}
-use Rattle.methodology.specs.Numbers.{row_index}
+use Rattle.methodology.specs.RowNumbers.{row_index}
 use Rattle.methodology.specs.Refusals.{Verdict, clear, row◌when◌else◌, outside, n_outside, k_outside, count_outside, closing_refusal}
 use Rattle.methodology.specs.Register.{Call, Register, start, refusal, accept, step, returned, written}
 use Rattle.methodology.specs.Text.{LF, bytes, same, onto, split, fields, is_digit, value_from, number_of, also, every_field, numbers_after, bad_bytes, AccountLine, refused_line, line_named, day_lines, fund_lines, Expected, period, member, day, account, after_end, Read, bad, read_period, opened, read_member, read_day, sized, with_account, read_account, read_line, closed, at_end, followed_by, report_from, report_of}

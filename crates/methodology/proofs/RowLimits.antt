@@ -17,7 +17,7 @@ use Rattle.std.specs.Prelude.{Option, Some, None, Ok, Err}
 use Rattle.std.proofs.lemmas.List.FromFn.{length-map-range_with_len}
 use Rattle.methodology.specs.declared.Opening.{Opening}
 use Rattle.methodology.specs.Account.{DayInput, accounts, nobody}
-use Rattle.methodology.specs.Numbers.{row_number, row_index}
+use Rattle.methodology.specs.RowNumbers.{row_number, row_index}
 use Rattle.methodology.specs.Refusals.{Verdict, clear, row◌when◌else◌, rows_of◌else◌, outside, count_outside, opening_refusal, bad_input, bad_heading, first_bad_heading, bad_amount, account_rows, day_rows, before_figures, day_refusal, closing_refusal}
 use Rattle.methodology.specs.Register.{Call, Register, last_number, refusal}
 use Rattle.methodology.proofs.Passed.{inside}

@@ -11,7 +11,7 @@ use Rattle.std.proofs.lemmas.List.FromFn.{length-range_with_len}
 use Rattle.methodology.specs.Account.{members}
 use Rattle.methodology.specs.Register.{Call, Register, start, last_number, accept, step, returned, written}
 use Rattle.methodology.specs.declared.Refusal.{Refusal}
-use Rattle.methodology.specs.Numbers.{row_number}
+use Rattle.methodology.specs.RowNumbers.{row_number}
 use Rattle.methodology.specs.Text.{LF, tab, bytes, digits, decimal, printed, refused_line, stretch, rows, totals, day_lines, fund_lines, report_of}
 use Rattle.methodology.proofs.Passed.{step_clear, by_test}
 use Rattle.methodology.proofs.Enough.{rises}

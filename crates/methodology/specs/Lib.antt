@@ -4,7 +4,7 @@ pub mod Brought
 pub mod Member
 pub mod Day
 pub mod Contribution
-pub mod Numbers
+pub mod RowNumbers
 pub mod Refusals
 pub mod Register
 pub mod Text

@@ -1,5 +1,5 @@
 -- Document 01, "Calls on a period": the refusal table, call by call, each row in its order of precedence: opening 2, 1; day 2, 4, 3, 5, 6,
--- 7; closing 2, 4. Each row has a name here, and its number in Numbers.antt; 9 is the text's. `Heading`, `Opening`, `DayTerms`, `Status` and
+-- 7; closing 2, 4. Each row has a name here, and its number in RowNumbers.antt; 9 is the text's. `Heading`, `Opening`, `DayTerms`, `Status` and
 -- `Refusal` are declared in src/lib.rt.
 use Rattle.std.specs.Prelude.{Bool, true, false, not, ◌&&◌, ◌||◌, cond, List, [], ◌∷◌, ℕ, suc, Result, Ok, Err, ◌+◌, ◌*◌, leb, ltb, eqb, ℤ, pos, neg_ℤ, length}
 use Rattle.std.specs.Int.Signed.{lt_z}

@@ -8,7 +8,7 @@ use Rattle.methodology.specs.declared.Opening.{Opening}
 use Rattle.methodology.specs.Account.{DayInput, no_opening, accounts}
 use Rattle.methodology.specs.Day.{total, dailies}
 use Rattle.methodology.specs.Contribution.{KeptDay, reported_max_eul, highest, contributions, total_funded}
-use Rattle.methodology.specs.Numbers.{row_number, row_index}
+use Rattle.methodology.specs.RowNumbers.{row_number, row_index}
 use Rattle.methodology.specs.Refusals.{Verdict, opening_refusal, day_refusal, closing_refusal}
 
 -- A call: "the arguments of each call as they stand at that call, the output's length among them", which is `room`.

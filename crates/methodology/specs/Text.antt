@@ -11,7 +11,7 @@ use Rattle.methodology.specs.declared.Refusal.{Refusal}
 use Rattle.methodology.specs.declared.Refusal.TheVariants.{BadOpening, BadLengths, BadLine}
 use Rattle.methodology.specs.declared.Opening.{Opening}
 use Rattle.methodology.specs.Account.{with_groups, DayInput, no_accounts, members, kind_h, kind_r, kind_a, kind_u}
-use Rattle.methodology.specs.Numbers.{row_number, row_index}
+use Rattle.methodology.specs.RowNumbers.{row_number, row_index}
 use Rattle.methodology.specs.Refusals.{Verdict, outside, n_outside, k_outside, count_outside}
 use Rattle.methodology.specs.Register.{Call, Register, start, refusal, step, returned, written}
 

@@ -2,7 +2,7 @@
 #![tactic(auto)]
 
 ghost use Rattle.std.specs.Prelude.{◌≡◌};
-ghost use Rattle.methodology.specs.Numbers.{row_number, row_index};
+ghost use Rattle.methodology.specs.RowNumbers.{row_number, row_index};
 
 // What an opening brings. "A period has n members, numbered 1 to n (1 to 32), and k stress scenarios (1 to 16). Each member has a group
 // number, 0 to 32." In a call its groups are a list of any length; a period keeps them in 32 places, with 0 past the last: no call can fail, so

@@ -19,8 +19,7 @@ fn end(from: Progress, rest: &[u8], printer: &mut Printer)
     ensures { (g : Register) → Stands g from.entry → Prints printer.old (report_from (from.entry.line + 1) (split LF rest.now) (after_end g from.entry.line)) printer.new }
 {
     if !rest.is_empty() {
-        printer.refusal(Refusal::BadLine, from.line + 1);
-        return;
+        return printer.refusal(Refusal::BadLine, from.line + 1);
     }
     let mut figures = [0; 96];
     let figures = &mut figures[..3 * from.n];
@@ -31,7 +30,8 @@ fn end(from: Progress, rest: &[u8], printer: &mut Printer)
     }
 }
 
-// One turn: the end line and what follows, or a day, for which places are lent.
+// One turn: the end line and what follows, or a day, for which places are lent. A refusal is printed where it is met: handed up by `?` with its
+// line, it would stand beside an end that hands up nothing.
 fn turn<'a>(from: Progress<'a>, places: &mut Places, printer: &mut Printer) -> Option<Progress<'a>>
     ensures turn_meets { (g : Register) → Stands g from.entry → TurnMeets (days_due from.entry.rest.now from.entry.line g) printer.old printer.new result }
     ensures further { IfSome result (λ to. length to.rest.now < length from.entry.rest.now) }

@@ -7,7 +7,7 @@ use Prim.Native.Nat.{ℕ}
 use Rattle.numbers.proofs.Lists.{every_weaken}
 use Rattle.std.specs.Prelude.{Option, Some, None, Ok, Err}
 use Rattle.std.specs.List.{AllByRecursion}
-use Rattle.methodology.specs.Numbers.{row_number, row_index}
+use Rattle.methodology.specs.RowNumbers.{row_number, row_index}
 use Rattle.methodology.specs.Refusals.{Verdict}
 use Rattle.methodology.specs.Register.{Register, start, refusal, step, refused_with, answer_by, answer}
 use Rattle.methodology.specs.Text.{report_of}

@@ -7,7 +7,7 @@ use prog.Memory.{Memory}
 use prog.Routine.{Routine}
 use types.Logic.{Logic}
 use contract.Monad.{Fun}
-use Rattle.methodology.specs.Numbers.{row_number}
+use Rattle.methodology.specs.RowNumbers.{row_number}
 use Rattle.methodology.specs.Refusals.{Verdict}
 use Rattle.methodology.specs.Register.{Call, Register, refusal, Answer, accepted, refused, refused_at}
 use Rattle.methodology.specs.Text.{bytes, same, report_of}

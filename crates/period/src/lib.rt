@@ -204,6 +204,8 @@ impl Period {
         })
     }
 
+    // The three calls, in document 01's form: "as mut self methods on the period struct, returned inside the answer".
+
     // "Opening takes n, k and groups, and is accepted when fresh or closed, with M, D, the last accepted day number and all sums 0."
     pub fn opening(mut self, n: u64, k: u64, groups: &[u64]) -> Reply<()>
         ensures { OpeningMeets self (brought n k groups.now) (answer_of opening_returned result.outcome) result.period }

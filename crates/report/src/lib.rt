@@ -70,8 +70,7 @@ impl<'a> Printer<'a> {
         self.numbers(numbers);
     }
 
-    // A line for each of n members with its stretch of the figures. By n and no `chunks_exact(width)`, which rules out a width of 0: an opening and
-    // a refusal have no figures.
+    // A line for each of n members with its stretch of the figures. By n and no `chunks_exact(width)`, which would ask for a width above 0.
     pub fn rows(&mut self, word: &[u8], width: usize, n: usize, figures: &[u64])
         requires n_in_bounds { width * n ≤ length figures.now }
         ensures { Prints self.old (rows word.now width n figures.now) self.new }

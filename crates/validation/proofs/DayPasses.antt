@@ -20,7 +20,7 @@ use Rattle.methodology.specs.Refusals.{clear, bad_input, bad_day_number, first_b
 use Rattle.methodology.specs.Refusals.{limit, npv_outside, account_rows, day_rows}
 use Rattle.methodology.proofs.Passed.{passed}
 use Rattle.methodology.proofs.RowLimits.{bad_heading_le, accounts_long}
-use Rattle.validation.specs.Slices.{none}
+use Rattle.validation.specs.Slices.{no_account}
 use Rattle.validation.specs.Passing.{Sized, Passes, Passed}
 use Rattle.validation.proofs.Headings.{Fine, fine, all_good}
 use Rattle.validation.proofs.Amounts.{npv_limit, bad_amount_at}
@@ -49,7 +49,7 @@ module _ (o : Opening) (d : DayInput) where
         × (get_or d.margins i 0 ≤ limit)
         × (get_or d.extras i 0 ≤ get_or d.margins i 0)
     parts i l =
-        let good = sym (bad_amount_at o.k d i l) ∙ fails_before_first bad_amount (accounts o.k d) i none (omega arith) in
+        let good = sym (bad_amount_at o.k d i l) ∙ fails_before_first bad_amount (accounts o.k d) i no_account (omega arith) in
         (grind (arith, nat_tests), grind (arith, nat_tests), grind (arith, nat_tests))
 
     npv_in : length d.npvs ≡ length d.headings * (o.k + 1) → (x : ℕ) → x < length d.npvs → nat_abs (get_or d.npvs x (pos 0)) ≤ limit

@@ -14,8 +14,8 @@ abbrev pub listed : Opening → Opening
 listed o = with_groups o (take o.n o.groups)
 
 -- an account of nobody, for an index past the last
-abbrev pub none : Account
-none = record { heading = nobody; npvs = []; margin = 0; extra = 0 }
+abbrev pub no_account : Account
+no_account = record { heading = nobody; npvs = []; margin = 0; extra = 0 }
 
 -- Slices within their limits: what rows 4 to 6 leave of a day's, and of each part that holds whole accounts.
 pub record Within (k : ℕ) (headings : List Heading) (npvs : List ℤ) (margins extras : List ℕ) : Type 0 where
