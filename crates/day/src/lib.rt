@@ -1,7 +1,7 @@
 // A day of the month's text: its acct lines are read, the day call is made, and what it says is printed.
 #![tactic(auto)]
 
-ghost use Rattle.std.specs.Prelude.{◌+◌, ◌^◌, ◌≤◌, length};
+ghost use Rattle.std.specs.Prelude.{◌+◌, ◌^◌, ◌≤◌, ◌<◌, length};
 
 use accounts::Places;
 use answers::{print_day, print_refused_day};
@@ -24,7 +24,7 @@ pub struct Progress<'a> {
 }
 
 impl<'a> Progress<'a> {
-    ghost use Rattle.std.specs.Prelude.{◌≡◌, ◌<◌, IfSome};
+    ghost use Rattle.std.specs.Prelude.{◌≡◌, IfSome};
     ghost use Rattle.methodology.specs.Register.{Register};
     ghost use Rattle.methodology.specs.Brought.{day_brought};
     ghost use Rattle.accounts.specs.AcctLines.{accounts_due, day_due};
@@ -41,9 +41,9 @@ impl<'a> Progress<'a> {
         printer: &mut Printer,
     ) -> Option<Progress<'a>>
         requires few { (1 ≤ count) × (count ≤ 256) }
-        requires further { length rest.now < length self.rest.now }
+        requires counted { self.line + length rest.now < 2 ^ 63 }
         ensures turn_meets { (g : Register) → Stands g self.entry → TurnMeets (accounts_due rest.entry.now g terms self.entry.line count) printer.old printer.new result }
-        ensures further { IfSome result (λ to. length to.rest.now < length self.entry.rest.now) }
+        ensures further { IfSome result (λ to. length to.rest.now ≤ length rest.entry.now) }
     {
         match places.read(rest, terms, count, self.k) {
             Ok((day, rest)) => self.sized(&day, rest, printer),
@@ -57,7 +57,7 @@ impl<'a> Progress<'a> {
     // The same where the acct lines were read, and `rest` follows them: the call is made and printed.
     fn sized(self, day: &Day, rest: &'a [u8], printer: &mut Printer) -> Option<Progress<'a>>
         requires few { length day.now.headings.now ≤ 256 }
-        requires further { length rest.now + length day.now.headings.now < length self.rest.now }
+        requires counted { self.line + length rest.now + length day.now.headings.now < 2 ^ 63 }
         ensures turn_meets { (g : Register) → Stands g self.entry → TurnMeets (day_due rest.entry.now g (day_brought day.now) self.entry.line (length day.now.headings.now)) printer.old printer.new result }
         ensures rest { IfSome result (λ to. to.rest.now ≡ rest.entry.now) }
     {

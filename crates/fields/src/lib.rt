@@ -122,7 +122,7 @@ fn kind(text: &[u8], end: u8) -> Option<(i64, &[u8])>
     Some((kind_of(field), &text[size + 1..]))
 }
 
-// A kind, or a signed number.
+// A kind, or a signed number. The flag is the definition's (`value_at`); with the choice in `row` the proof of `row` would have two branches.
 fn value(text: &[u8], lettered: bool, end: u8) -> Option<(i64, &[u8])>
     requires { stops end ≡ true }
     ensures { Reads (value_at lettered end text.now) text.now result }

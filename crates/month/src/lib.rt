@@ -32,7 +32,7 @@ fn print(text: &[u8], printer: &mut Printer)
 pub fn report(text: &[u8], out: &mut [u8]) -> usize
     ensures { Put out.old 0 (report_of text.now) out.new result }
 {
-    let mut printer = Printer { out, at: 0 };
+    let mut printer = Printer::new(out, 0);
     print(text, &mut printer);
     printer.at
 }

@@ -20,7 +20,7 @@ use Rattle.methodology.proofs.Passed.{passed_rows, loss_stands}
 use Rattle.methodology.proofs.RowLimits.{accounts_long}
 use Rattle.quotient.specs.Ranges.{Loss, greatest_total}
 use Rattle.quotient.proofs.QuotientBounds.{share_le}
-use Rattle.validation.specs.Slices.{none}
+use Rattle.validation.specs.Slices.{no_account}
 use Rattle.validation.specs.Passing.{Passes}
 use Rattle.validation.proofs.DayPasses.{sized, rows_leave, passes}
 use Rattle.exposure.specs.declared.day.Figures.{Figures}
@@ -70,8 +70,8 @@ module _ {p : Period} {d : DayInput} {room : ℕ} (s : Admits p d room) where
 
   good_amount : (a : Account) → a ∈ accounts_brought p d → bad_amount a ≡ false
   good_amount =
-      by_index (λ a. bad_amount a ≡ false) (accounts_brought p d) none
-      (λ i h. fails_before_first bad_amount (accounts_brought p d) i none (omega (arith, s.rows.amounts, accounts_long p.held.k d)))
+      by_index (λ a. bad_amount a ≡ false) (accounts_brought p d) no_account
+      (λ i h. fails_before_first bad_amount (accounts_brought p d) i no_account (omega (arith, s.rows.amounts, accounts_long p.held.k d)))
 
   pub total_few : total (held_by p) (accounts_brought p d) ≤ greatest_total
   total_few =

@@ -17,8 +17,18 @@ pub struct Printer<'a> {
 
 impl<'a> Printer<'a> {
     ghost use mathlib.Core.List.{[], ◌∷◌};
+    ghost use Rattle.std.specs.Prelude.{min};
     ghost use Rattle.methodology.specs.Text.{tab, decimal, printed, refused_line, rows};
     ghost use Rattle.report.specs.Prints.{Prints};
+
+    // From an index of the buffer on: one past its end stands for every index further on.
+    pub fn new(out: &'a mut [u8], at: usize) -> Printer<'a>
+        ensures at { result.at ≡ min at (length out.entry.now + 1) }
+        ensures buffer { (result.out.now ≡ out.entry.now) × (result.out.ghost_name ≡ out.entry.ghost_name) }
+    {
+        let at = at.min(out.len() + 1);
+        Printer { out, at }
+    }
 
     pub fn bytes(&mut self, bytes: &[u8])
         ensures { Prints self.old bytes.now self.new }

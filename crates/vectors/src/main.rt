@@ -23,10 +23,7 @@ fn run_month<'a>(rt: &impl Print, text: &'a [u8], out: &mut [u8]) -> io::Result<
     };
     let end = month::report(month, out);
     let mut heading = [0; 64];
-    let mut printer = Printer {
-        out: &mut heading,
-        at: 0,
-    };
+    let mut printer = Printer::new(&mut heading, 0);
     printer.line(b"report", &[number, end as u64]);
     let length = printer.at;
     if heading.len() < length || out.len() < end {

@@ -1,7 +1,9 @@
 -- `turn` meets its contract: the line is the end line, or a day line of the right form and count, or bad.
-use mathlib.Core.Path.{refl, sym, ◌∙◌}
-use Rattle.std.specs.Prelude.{Some}
+use mathlib.Core.Path.{refl, sym, ap, ◌∙◌}
+use Rattle.std.specs.Prelude.{Some, ◌<◌, length}
+use Rattle.std.proofs.Common.{arith}
 use Rattle.std.proofs.lemmas.Bool.Decides.{Decides-eqb}
+use Rattle.std.proofs.lemmas.Option.{IfSome_then}
 use Rattle.std.proofs.lemmas.Slice.Eq.{strip_prefix_is}
 use Rattle.methodology.specs.Text.{bytes}
 use Rattle.accounts.proofs.Line.{line_shorter}
@@ -31,10 +33,15 @@ returns-then-count_outside-clause-turn_meets c =
     let beyond = sym c.count_outside.ensures ∙ c.if-count_outside.true in
     λ g h. rw (day_outside g from.line from.rest.now no_end _ read beyond) c.refusal-then-count_outside.ensures
 
-pub take_day-requires-clause-further : goal.take_day-requires-clause-further
-take_day-requires-clause-further c =
+pub take_day-requires-clause-counted : goal.take_day-requires-clause-counted
+take_day-requires-clause-counted c =
     let (read, after) = c.in-Some-numbers.ensures in
-    rw after (line_shorter _ c.args.from.rest.now _ read)
+    omega (arith, c.args.from.counted, ap length after, line_shorter _ c.args.from.rest.now _ read)
+
+pub returns-clause-further : goal.returns-clause-further
+returns-clause-further c =
+    let (read, after) = c.in-Some-numbers.ensures in
+    IfSome_then _ {Q = λ to. length to.rest.now < length c.args.from.rest.now} c.take_day.ensures.further (λ to h. omega (arith, h, ap length after, line_shorter _ c.args.from.rest.now _ read))
 
 pub returns-clause-turn_meets : goal.returns-clause-turn_meets
 unfolding bytes
