@@ -49,8 +49,8 @@ impl Places {
         let mut rest = text;
         // By an index, which serves all four arrays: their places zipped would nest three deep, and no proof knows what is written through a zip.
         for j in 0..count {
-            let mut places = [0; 22]; // for 16 stresses
-            let values = &mut places[..k + 6];
+            let mut values = [0; 22]; // for 16 stresses
+            let values = &mut values[..k + 6];
             let Some((line, next)) = account(rest, values) else {
                 return Err(j);
             };

@@ -17,7 +17,7 @@ use period::{ClosingReturns, DayReturns};
 use report::Printer;
 
 // The lines of an accepted day, of its number, what it returned, and the figures that it wrote for n members: "After a day's daily lines the
-// report prints `total`, then the sums".
+// report prints `total`, then the sums". n stands beside the figures, as in `Printer::rows`.
 pub fn print_day(printer: &mut Printer, number: u64, returns: DayReturns, n: usize, figures: &[u64])
     requires n_in_bounds { 5 * n ≤ length figures.now }
     requires every { AllByRecursion (λ x. x < 2 ^ 64) (totals n figures.now) }

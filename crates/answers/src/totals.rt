@@ -17,8 +17,8 @@ fn column_sum(n: usize, figures: &[u64], c: usize) -> u64
     sum
 }
 
-// "the sums of e, share, value, reserve and estimate over that day's members", n of them. Each by its name: a map
-// over the columns 0 to 4 would say less.
+// "the sums of e, share, value, reserve and estimate over that day's members", n of them. Each by its name, as they
+// are listed: over the columns 0 to 4 the names would be numbers.
 #[tactic(auto, unfolding(methodology::specs::Text::totals))]
 pub fn day_totals(n: usize, figures: &[u64]) -> [u64; 5]
     requires n_in_bounds { 5 * n ≤ length figures.now }

@@ -4,7 +4,8 @@
 // after a closing, two of which have not begun.
 //
 // A call prints its number and what it says: accepted with its figures, or refused with the row and, in rows 5 and 6, the index. A day and
-// a closing then print the buffer that they were lent, which was filled with 7. The stored output was worked out from the documents, by a
+// a closing then print the buffer that they were lent, which was filled with 7. The numbers stand at the calls, so that a reader finds
+// each in the stored output. The stored output was worked out from the documents, by a
 // recalculation and for calls 31 to 33 by hand, not taken from the program.
 #![tactic(auto)]
 
@@ -18,7 +19,7 @@ use std::{array, io};
 // The limit of an NPV, and of a margin.
 const LIMIT: i64 = 1_000_000_000_000;
 
-const MOST: u64 = 1_000_000_000_000;
+const MOST: u64 = LIMIT as u64;
 
 // The NPVs of three houses under one scenario, of which the first loses 50, and no margins or extras.
 const LOSS: [i64; 6] = [60, 10, 0, 0, 0, 0];

@@ -10,7 +10,7 @@ use period::{Period, Reply};
 use report::Printer;
 
 // How far a report has come: what is left of the text, the number of the line at its front, and the period as the calls so far have left it,
-// with n members and k scenarios.
+// with n members and k scenarios, as the text brought them: the period's own are private.
 #[derive(Clone, Copy)]
 pub struct Progress<'a> {
     pub rest: &'a [u8],

@@ -13,17 +13,12 @@ pub fn gain(x: i64) -> u64
     x.max(0) as u64
 }
 
-// Base minus stress, or 0 where that is negative. By `gain` of the difference it is slower, by an instruction
-// for each account.
+// Base minus stress, or 0 where that is negative.
 fn decrease(base: i64, stress: i64) -> u64
     requires { (nat_abs base ≤ limit) × (nat_abs stress ≤ limit) }
     ensures { result ≡ (base -ℤ stress) ⁺ }
 {
-    if stress < base {
-        (base - stress) as u64
-    } else {
-        0
-    }
+    gain(base - stress)
 }
 
 // The largest decrease of an account, from its part of the day's NPVs: its base, then stress 1 to k.

@@ -12,6 +12,7 @@ fn added(a: [i64; 16], b: [i64; 16]) -> [i64; 16]
     ensures { result ≡ plus a b }
 {
     let mut sums = a;
+    // By an index into b: nothing is known of what is written through a zip.
     for (j, sum) in sums.iter_mut().enumerate() {
         *sum += b[j];
     }

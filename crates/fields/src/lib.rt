@@ -36,7 +36,8 @@ fn digits(text: &[u8], most: usize) -> (u64, usize)
     (value, most)
 }
 
-// The same for 13, or as many bytes as there are. That 13 stands here as a number lets the compiler unroll the loop.
+// The same for 13, or as many bytes as there are. That 13 stands here as a number lets the compiler unroll the loop: 22 million instructions
+// for the fields of a full-size month, and else 27.
 fn first_digits(text: &[u8]) -> (u64, usize)
     ensures run { Run text.now result.1 result.0 }
     ensures over { Over text.now (min (length text.now) 13) result.1 }
@@ -50,7 +51,7 @@ fn first_digits(text: &[u8]) -> (u64, usize)
 }
 
 // "Numbers have 1 to 13 digits, no leading zero (0 itself is good)": the one that a text begins with, if the byte `end` ends it, and the
-// rest after that byte. So every reader here answers. `end` is a byte, as the text has it: an enum of tab and LF would turn back into one.
+// rest after that byte, as every reader here answers. `end` is a byte, as the text has it: an enum of tab and LF would turn back into one.
 fn natural(text: &[u8], end: u8) -> Option<(u64, &[u8])>
     requires { stops end ≡ true }
     ensures { Reads (number_at end text.now) text.now result }
@@ -99,7 +100,8 @@ fn end_of(text: &[u8]) -> Option<usize>
     text.iter().position(|&b| b == TAB || b == LF)
 }
 
-// Whether a byte is not ASCII, in the definition's word. The library's `is_ascii` answers by cases on each byte, which is no plainer.
+// Whether a byte is not ASCII, in the definition's word. The library's `is_ascii` promises two facts, by cases, and not this word: its proof is
+// no plainer.
 fn is_foreign(s: &[u8]) -> bool
     ensures { result ≡ list_any (nat_lt 127) s.now }
 {
@@ -122,7 +124,7 @@ fn kind(text: &[u8], end: u8) -> Option<(i64, &[u8])>
     Some((kind_of(field), &text[size + 1..]))
 }
 
-// A kind, or a signed number. The flag is the definition's (`value_at`); with the choice in `row` the proof of `row` would have two branches.
+// A kind, or a signed number. The flag is the definition's (`value_at`): so a field has one contract, and `row` no branch.
 fn value(text: &[u8], lettered: bool, end: u8) -> Option<(i64, &[u8])>
     requires { stops end ≡ true }
     ensures { Reads (value_at lettered end text.now) text.now result }
@@ -148,7 +150,7 @@ pub fn row<'a>(text: &'a [u8], kind_place: Option<usize>, row: &mut [i64]) -> Op
     ensures { RowReads (row_at kind_place 0 (length row.old) text.now) (length row.old) text.now row.new result }
 {
     let count = row.len();
-    // No field's where none is a kind. The Option itself, compared at each field, takes seven instructions more.
+    // No field's where none is a kind. Compared as an Option it takes seven instructions more at each field.
     let kind_place = kind_place.unwrap_or(count);
     let mut rest = text;
     for (j, place) in row.iter_mut().enumerate() {

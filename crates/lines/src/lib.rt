@@ -60,6 +60,7 @@ pub fn numbers<'a, const N: usize>(text: &'a [u8], word: &[u8]) -> Option<([u64;
     let mut values = [0i64; N];
     let rest = line(text, word, None, &mut values)?;
     let mut numbers = [0u64; N];
+    // By an index into the values: over a zip that writes (tried) the proof does not close.
     for (j, number) in numbers.iter_mut().enumerate() {
         *number = natural(values[j])?;
     }

@@ -6,7 +6,7 @@ ghost use Rattle.methodology.specs.RowNumbers.{row_number, row_index};
 
 // What an opening brings. "A period has n members, numbered 1 to n (1 to 32), and k stress scenarios (1 to 16). Each member has a group
 // number, 0 to 32." In a call its groups are a list of any length; a period keeps them in 32 places, with 0 past the last: no call can fail, so
-// nothing takes memory. The limits are no part of the type, since row 1 answers for what is outside them: who needs one asks for it.
+// nothing takes memory. The limits are no part of the type, since the definitions share it and take what row 1 refuses: who needs one asks for it.
 #[derive(Clone, Copy, Debug, PartialEq, Eq)]
 pub struct Opening {
     pub n: u64,
@@ -83,7 +83,7 @@ pub enum Refusal {
 }
 
 impl Refusal {
-    // The number that document 01's table returns for the row.
+    // The number that document 01's table returns for the row. "Number 8 no longer occurs" (document 02, Change 2).
     pub fn number(self) -> u64
         ensures { result ≡ row_number self }
     {

@@ -30,8 +30,8 @@ fn end(from: Progress, rest: &[u8], printer: &mut Printer)
     }
 }
 
-// One turn: the end line and what follows, or a day, for which places are lent. A refusal is printed where it is met: handed up by `?` with its
-// line, it would stand beside an end that hands up nothing.
+// One turn: the end line and what follows, or a day, for which places are lent. A refusal is printed where it is met: with `?` it would take its
+// line along, and the end line would still be a third way out.
 fn turn<'a>(from: Progress<'a>, places: &mut Places, printer: &mut Printer) -> Option<Progress<'a>>
     ensures turn_meets { (g : Register) → Stands g from.entry → TurnMeets (days_due from.entry.rest.now from.entry.line g) printer.old printer.new result }
     ensures further { IfSome result (λ to. length to.rest.now < length from.entry.rest.now) }
@@ -44,7 +44,7 @@ fn turn<'a>(from: Progress<'a>, places: &mut Places, printer: &mut Printer) -> O
         printer.refusal(Refusal::BadLine, from.line);
         return None;
     };
-    let ([number, count], rest) = line; // not in the pattern above: an array under `Some` has no proof
+    let ([number, count], rest) = line; // not in the pattern above: the prover takes no array under `Some`
     if count_outside(count) {
         printer.refusal(Refusal::BadLengths, from.line);
         return None;
@@ -57,6 +57,7 @@ pub fn days(mut from: Progress, printer: &mut Printer)
     ensures { (g : Register) → Stands g from.entry → Prints printer.old (days_due from.entry.rest.now from.entry.line g) printer.new }
 {
     let mut places = Places::empty();
+    // no `for`: whether it goes on is what a turn answers
     while let Some(to) = turn(from, &mut places, printer) {
         from = to;
     }

@@ -21,7 +21,7 @@ fn print(text: &[u8], printer: &mut Printer)
     let Some(line) = numbers::<2>(text, b"period") else {
         return printer.refusal(Refusal::BadLine, 1);
     };
-    let ([n, k], rest) = line; // not in the pattern above: an array under `Some` has no proof
+    let ([n, k], rest) = line; // not in the pattern above: the prover takes no array under `Some`
     if n_outside(n) || k_outside(k) {
         return printer.refusal(Refusal::BadOpening, 1);
     }

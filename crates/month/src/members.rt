@@ -20,7 +20,7 @@ fn read_members<'a>(text: &'a [u8], groups: &mut [u64]) -> Result<&'a [u8], usiz
         let Some(line) = numbers::<2>(rest, b"member") else {
             return Err(j);
         };
-        let ([member, group], next) = line; // not in the pattern above: an array under `Some` has no proof
+        let ([member, group], next) = line; // not in the pattern above: the prover takes no array under `Some`
         if member != j as u64 + 1 {
             return Err(j);
         }

@@ -117,10 +117,6 @@ module _ {A : Type 0} where
   pub part_at : (a n : ℕ) (l : List A) (i : ℕ) (d : A) → i < n → get_or (take n (drop a l)) i d ≡ get_or l (a + i) d
   part_at a n l i d h = get_or-take n (drop a l) i d h ∙ get_or-drop a l i d
 
-  -- an index of a part is one of the whole, further on
-  pub part_index : (a n : ℕ) (l : List A) (i : ℕ) → a + n ≤ length l → i < length (take n (drop a l)) → (i < n) × (a + i < length l)
-  part_index a n l i h k = omega (arith, part_length a n l h)
-
   -- a part of a part
   pub drop_take : (n m : ℕ) (l : List A) → drop n (take m l) ≡ take (m - n) (drop n l)
   drop_take zero m l = rw sub-zero

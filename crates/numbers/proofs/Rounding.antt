@@ -35,10 +35,6 @@ module _ (p q : ℕ) (hq : 0 < q) where
   ceil_unique n above below =
       le_antisymm (nearby n (ceil_div p q) q (omega (arith, ceil_above))) (nearby (ceil_div p q) n q (omega (arith, ceil_below)))
 
-  pub round_unique : (n : ℕ) → 2 * p < 2 * n * q + q → 2 * n * q ≤ 2 * p + q → n ≡ round_div p q
-  round_unique n above below =
-      le_antisymm (nearby n (round_div p q) q (omega (arith, round_above))) (nearby (round_div p q) n q (omega (arith, round_below)))
-
   -- ceilDiv p q is the least n with p ≤ n · q, and roundDiv p q is no greater
   pub ceil_le : (n : ℕ) → p ≤ n * q → ceil_div p q ≤ n
   ceil_le n h = nearby (ceil_div p q) n q (omega (arith, ceil_below))

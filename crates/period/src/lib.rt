@@ -12,7 +12,8 @@ use methodology::{Day, Opening, Refusal, Status};
 use validation::limits::bad_opening;
 
 // What the calls of a period have left. Its fields are private: a period is a fresh one, or one that calls returned. The groups of the
-// opening that is held stand in 32 places, with 0 past the last.
+// opening that is held stand in 32 places, with 0 past the last. The status stands beside the opening, as in document 01's register: a closed
+// period is "otherwise as before".
 #[derive(Clone, Copy)]
 pub struct Period {
     status: Status,
@@ -21,7 +22,7 @@ pub struct Period {
 }
 
 // What the days accepted since the last accepted opening come to: `last` is the last accepted day number, `days` is D, `highest` is M, and
-// member i + 1 has the sum of its shares in place i; past member n stands 0.
+// member i + 1 has the sum of its shares in place i; past member n stands 0. Before a day all are 0, as document 01 has them.
 #[derive(Clone, Copy)]
 pub struct Accrued {
     last: u64,
@@ -103,7 +104,7 @@ impl Period {
         }
     }
 
-    // Whether every field is in the range of an open period.
+    // Whether every field is in the range of an open period. A test and no ghost field: a call answers every period, whatever its fields hold.
     #[tactic(auto, using(crate::proofs::InRange::many_members), unfolding(crate::specs::Calls::in_range))]
     fn in_range(&self) -> bool
         ensures { result ≡ in_range self.now }
@@ -160,8 +161,7 @@ impl Period {
         Ok(())
     }
 
-    // What `day` does to a period: its number, the Max EUL that it reports, which M is then, and the shares that stand in what it writes are
-    // taken in.
+    // What `day` does to a period: it takes in the day's number, the Max EUL that it reports, which M is then, and the shares that it wrote.
     fn size(&mut self, day: &Day, out: &mut [u64]) -> Result<DayReturns, Refusal>
         ensures { DayMeets self.old (day_brought day.now) out.old (answer_of day_returned result) self.new out.new }
     {

@@ -33,6 +33,7 @@ pub fn read_all<R: Read>(from: &mut R, text: &mut [u8]) -> Result<usize, Cut>
     ensures cut_bytes { IfErr result (λ cut. Consumes (R.remaining from.old) (R.remaining from.new) (take cut.read text.new)) }
 {
     let mut done = 0;
+    // no `for`: how far a turn comes is told by its read
     while done < text.len() {
         let end = done.saturating_add(PIECE).min(text.len());
         let Ok(count) = from.read(&mut text[done..end]) else {
@@ -47,7 +48,7 @@ pub fn read_all<R: Read>(from: &mut R, text: &mut [u8]) -> Result<usize, Cut>
 }
 
 // The report of an input whose first `TEXT_ROOM` bytes, or all if it is shorter, are the first of the buffer: how many bytes it has. Where a
-// read failed there is none.
+// read failed there is none, which is promised here since `answer` prints, and no contract speaks of that.
 fn report_of(text: &[u8], read: Result<usize, Cut>, out: &mut [u8]) -> Result<usize, Cut>
     requires { IfOk read (λ n. n ≤ length text.now) × (length text.now ≡ TEXT_ROOM) × (length out.old ≡ REPORT_ROOM) }
     ensures failed { is_err result ≡ is_err read }
@@ -58,7 +59,7 @@ fn report_of(text: &[u8], read: Result<usize, Cut>, out: &mut [u8]) -> Result<us
     Ok(month::report(&text[..n], out))
 }
 
-// Writes the report of what the reader gives. Lent by its type, an array has its length without counting it.
+// Writes the report of what the reader gives. An array that is lent as one, and not as a slice, brings its length to the proof.
 fn answer<R: Read>(
     rt: &(impl Print + Eprint),
     from: &mut R,

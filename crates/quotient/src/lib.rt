@@ -9,8 +9,8 @@ ghost use Rattle.quotient.specs.Ranges.{greatest_total, Loss, Charge};
 // The share of a member that has the whole loss.
 pub const SCALE: u64 = 1_000_000_000_000;
 
-// The share of a loss e in the total t. `Loss` is asked, and below a bound of Max EUL, and no type has them: a struct would be taken apart again
-// in each body.
+// The share of a loss e in the total t. `Loss`, and in `daily` a bound of Max EUL, are asked for and no struct has them: it would be taken apart
+// again in each body.
 pub fn share(e: u64, t: u64) -> u64
     requires { Loss e t }
     ensures { result ≡ ceil_div (e * scale) t }

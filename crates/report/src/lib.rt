@@ -6,8 +6,8 @@ ghost use Rattle.std.specs.Prelude.{◌≡◌, ◌+◌, ◌*◌, ◌≤◌, leng
 use itoa::Buffer;
 use methodology::Refusal;
 
-// Prints into a lent buffer: `at` is the index after what is printed. Nothing asks for room: what finds none is left out, and `at` is then
-// above the buffer's length.
+// Prints into a lent buffer: `at` is the index after what is printed. Nothing asks for room: what finds none is left out, and `at` is then one
+// above the buffer's length. A number and no Option: what comes after goes by it in any case, without a test at each of a line's parts.
 #[derive(Drop)]
 pub struct Printer<'a> {
     pub out: &'a mut [u8],

@@ -112,8 +112,7 @@ fn first_bad_amount(k: usize, day: &Day) -> Option<usize>
     ensures { let index = position_or_len bad_amount (accounts k (day_brought day.now)) in result ≡ then_some (ltb index (length day.now.headings.now)) index }
 {
     let width = k + 1;
-    // By an index: over `chunks_exact(width)` zipped with margins and extras (tried) the proof of a `position` does not close, since no law of
-    // the library says what the chunks are.
+    // By an index: over `chunks_exact(width)` zipped with margins and extras (tried) the proof of a `position` does not close.
     for i in 0..day.headings.len() {
         let at = i * width;
         if bad_amounts(&day.npvs[at..at + width], day.margins[i], day.extras[i]) {

@@ -13,6 +13,8 @@ pub(crate) fn outside(least: u64, most: u64, x: u64) -> bool
     !(least..=most).contains(&x)
 }
 
+// Three names over one test, as document 01 has them: generic over the limits, each use would be of numbers.
+
 // "n members, numbered 1 to n (1 to 32)".
 pub fn n_outside(n: u64) -> bool
     ensures { result ≡ n_outside n }

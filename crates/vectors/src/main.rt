@@ -10,14 +10,15 @@ use report::Printer;
 use std::io;
 use std::io::Read;
 
-// Writes the report of the month whose heading is at the front of the text, and answers what follows it; or nothing, where there is none.
+// Writes the report of the month whose heading is at the front of the text, and answers what follows it; or nothing, where there is none
+// or a buffer is too short.
 fn run_month<'a>(rt: &impl Print, text: &'a [u8], out: &mut [u8]) -> io::Result<Option<&'a [u8]>>
     ensures { IfOk result (λ next. IfSome next (λ rest. length rest.now < length text.now)) }
 {
     let Some(line) = numbers::<2>(text, b"month") else {
         return Ok(None);
     };
-    let ([number, size], rest) = line; // not in the pattern above: an array under `Some` has no proof
+    let ([number, size], rest) = line; // not in the pattern above: the prover takes no array under `Some`
     let Some((month, next)) = rest.split_at_checked(size as usize) else {
         return Ok(None);
     };
@@ -34,7 +35,7 @@ fn run_month<'a>(rt: &impl Print, text: &'a [u8], out: &mut [u8]) -> io::Result<
     Ok(Some(next))
 }
 
-// Lent by its type, an array has its length without counting it. Where a read fails, the months read before it are run.
+// An array that is lent as one, and not as a slice, brings its length to the proof. Where a read fails, the months read before it are run.
 fn run_all<R: Read>(
     rt: &impl Print,
     from: &mut R,
@@ -43,6 +44,7 @@ fn run_all<R: Read>(
 ) -> io::Result<()> {
     let end = read_all(from, text).unwrap_or_else(|cut| cut.read);
     let mut rest = &text[..end];
+    // no `for`: where a month ends is told by its heading
     while let Some(next) = run_month(rt, rest, out)? {
         rest = next;
     }

@@ -2,11 +2,8 @@
 use mathlib.Core.Path.{sym}
 use Rattle.std.proofs.Common.{arith}
 use Rattle.methodology.specs.Text.{bytes}
-use Rattle.month.proofs.Openings.{left_start, left_bad, left_other, left_more}
+use Rattle.month.proofs.Openings.{left_bad, left_other, left_more}
 use Rattle.month.proofs.members.read_members.Goals as goal
-
-pub loop-j-init : goal.loop-j-init
-loop-j-init c = left_start _ _ c.requires
 
 pub returns-in_default : goal.returns-in_default
 unfolding bytes
