@@ -75,9 +75,6 @@ pub record Left (text groups : List ℕ) (j : ℕ) (rest : List ℕ) : Type 0 wh
   pub shorter : length rest + j ≤ length text
   pub same : (k : ℕ) → members_due text (length groups) k ≡ left (length groups) k j (take j groups) rest
 
-pub left_start : (text groups : List ℕ) → 1 ≤ length groups → Left text groups 0 text
-left_start text groups h = record { shorter = omega arith; same = λ k. rw (ne_eqb 0 (length groups) (λ e. omega arith)) refl }
-
 module _ {text groups : List ℕ} {j : ℕ} {rest : List ℕ} (l : Left text groups j rest) where
   module _ (h : j < length groups) where
     long : length (take j groups) ≡ j
