@@ -15,11 +15,12 @@ use Rattle.methodology.specs.Text.{LF, split, AccountLine, account_of, account, 
 use Rattle.methodology.specs.Lines.{after, line_read}
 use Rattle.methodology.proofs.Splits.{used_by}
 use Rattle.accounts.specs.declared.Places.{Places}
-use Rattle.accounts.specs.AcctLines.{day_read, accounts_due, day_due, FirstBad}
-use Rattle.accounts.proofs.Line.{line_length, line_bad, line_over, line_more, line_last}
+use Rattle.accounts.specs.AcctLines.{EndsWith, day_read, accounts_due, day_due, FirstBad}
+use Rattle.accounts.proofs.Line.{line_length, line_off, line_bad, line_over, line_more, line_last}
 use Rattle.accounts.proofs.Stores.{stored, Room, day_more}
 
 pub record ReadSoFar (text : List ℕ) (count k j : ℕ) (rest : List ℕ) (places : Places) : Type 0 where
+  pub rest_is : EndsWith text rest
   pub shorter : length rest + j ≤ length text
   pub due :
       (g : Register) (terms : DayTerms) (at : ℕ) → g.held.k ≡ k → j < count
@@ -55,6 +56,7 @@ module _ {text : List ℕ} {count k j : ℕ} {rest : List ℕ} {places : Places}
       pub reading_more : ReadSoFar text count k (j + 1) next (stored j k size a places)
       reading_more =
           record {
+            rest_is = line_off (account_of k) text rest a next read n b.rest_is;
             shorter = omega (arith, b.shorter, ap length n, line_length (account_of k) rest a read);
             due = λ g terms at e l.
                 let t : at + 1 + j + 1 ≡ at + 1 + (j + 1) = omega arith in

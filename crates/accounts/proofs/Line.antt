@@ -1,13 +1,13 @@
 -- An account's line taken off the front of a text: what the report is then, for a bad line, one too many bytes, one more account, and the last.
-use mathlib.Core.Path.{◌≡◌, refl, ◌∙◌}
+use mathlib.Core.Path.{◌≡◌, refl, ap, ◌∙◌}
 use mathlib.Core.Bool.{Bool, true, false, not, ◌&&◌, cond}
 use mathlib.Core.List.{List, []}
 use Rattle.std.specs.Prelude.{Option, None, Some}
-use Prim.Native.Nat.{ℕ, ◌+◌, ◌*◌, ◌≤◌, ◌<◌}
+use Prim.Native.Nat.{ℕ, suc, ◌+◌, ◌-◌, ◌*◌, ◌≤◌, ◌<◌}
 use native.Mathlib.Omega.{arith}
 use lib.Dec.{eqb, ltb}
-use lib.ListN.{length, length-drop}
-use lib.Seq.{length-take-le}
+use lib.ListN.{length, drop, length-take, length-drop}
+use lib.Seq.{drop-drop, length-take-le}
 use borrow.Author.Tests.{ltb-true, eq-eqb, ne_eqb, lt-ltb, le-ltb}
 use Rattle.std.proofs.lemmas.List.Sums.{prefix_len-le-length}
 use Rattle.methodology.specs.Account.{DayInput}
@@ -16,6 +16,7 @@ use Rattle.methodology.specs.declared.Refusal.TheVariants.{BadLine}
 use Rattle.methodology.specs.Text.{LF, split, bad_bytes, AccountLine, account_of, refused_line, account, Read, goes_on, bad, sized, with_account, read_account, followed_by, report_from}
 use Rattle.methodology.specs.Lines.{index_of, has, before, after, line_read}
 use Rattle.methodology.proofs.Splits.{used_by, account_line}
+use Rattle.accounts.specs.AcctLines.{EndsWith}
 
 -- a line that was read, its LF and what follows them are the whole text
 pub line_length : {A : Type 0} (reading : List ℕ → Option A) (s : List ℕ) (x : A) → line_read reading s ≡ Some x
@@ -31,6 +32,16 @@ line_length {A} reading s x e = by (has LF s) refl e
 
 pub line_shorter : {A : Type 0} (reading : List ℕ → Option A) (s : List ℕ) (x : A) → line_read reading s ≡ Some x → length (after LF s) < length s
 line_shorter reading s x e = omega (arith, line_length reading s x e)
+
+-- what a text ends with still is that where a line is taken off its front
+pub line_off : {A : Type 0} (reading : List ℕ → Option A) (text s : List ℕ) (x : A) (next : List ℕ) → line_read reading s ≡ Some x → next ≡ after LF s
+    → EndsWith text s → EndsWith text next
+line_off reading text s x next e n h =
+    let long = line_length reading s x e in
+    let off = suc (index_of LF s) in
+    let cut : drop off (drop (length text - length s) text) ≡ drop (length text - length s + off) text = drop-drop off (length text - length s) text in
+    let index : length text - length s + off ≡ length text - length next = omega (arith, ap length n, ap length h, long, length-take (index_of LF s) s, length-drop {A = ℕ}) in
+    n ∙ ap (drop off) h ∙ cut ∙ ap (λ (i : ℕ). drop i text) index
 
 module _ (g : Register) (d : DayInput) (at count used i : ℕ) (s : List ℕ) where
   abbrev due : List ℕ

@@ -1,6 +1,6 @@
 -- What reading a day's acct lines comes to: the report from the first of them on, in terms of the accounts that stand in the places, or of
 -- the first bad line.
-use Rattle.std.specs.Prelude.{List, ◌≡◌, ℕ, ◌+◌, ◌*◌, ◌≤◌, ◌<◌, pos, length, take, replicate}
+use Rattle.std.specs.Prelude.{List, ◌≡◌, ℕ, ◌+◌, ◌-◌, ◌*◌, ◌≤◌, ◌<◌, pos, length, take, drop, replicate}
 use Rattle.methodology.specs.declared.DayTerms.{DayTerms}
 use Rattle.methodology.specs.declared.Refusal.TheVariants.{BadLine}
 use Rattle.methodology.specs.Account.{DayInput, no_accounts, nobody}
@@ -11,6 +11,14 @@ use Rattle.accounts.specs.declared.Places.{Places}
 -- places before the first day
 abbrev pub cleared : Places
 cleared = record { headings = replicate 256 nobody; npvs = replicate 4352 (pos 0); margins = replicate 256 0; extras = replicate 256 0 }
+
+-- the rest is what the text ends with
+abbrev pub EndsWith : (text rest : List ℕ) → Type 0
+EndsWith text rest = rest ≡ drop (length text - length rest) text
+
+-- the same day with other terms
+abbrev pub with_terms : DayTerms → DayInput → DayInput
+with_terms terms d = record { terms = terms; headings = d.headings; npvs = d.npvs; margins = d.margins; extras = d.extras }
 
 -- a day of the accounts in the first `count` places, with k + 1 NPVs each
 abbrev pub day_read : DayTerms → (count k : ℕ) → Places → DayInput
@@ -32,13 +40,18 @@ abbrev pub day_due : (rest : List ℕ) → Register → DayInput → (at count :
 day_due rest g d at count =
     followed_by (sized (refusal g (Call.day d (5 * g.held.n))) g d at) (report_from (at + 1 + count) (split LF rest))
 
--- all accounts of a day, k stresses each, were read and make the day d, and the rest follows their lines
+-- all accounts of a day, k stresses each, were read and make the day d of these terms, and the rest follows their lines
 pub record AllRead (text : List ℕ) (terms : DayTerms) (count k : ℕ) (d : DayInput) (rest : List ℕ) : Type 0 where
+  pub terms_are : d.terms ≡ terms
   pub many : length d.headings ≡ count
+  pub npvs_long : length d.npvs ≡ count * (k + 1)
+  pub margins_long : length d.margins ≡ count
+  pub extras_long : length d.extras ≡ count
+  pub rest_is : EndsWith text rest
   pub shorter : length rest + count ≤ length text
   pub due :
-      (g : Register) (at : ℕ) → g.held.k ≡ k
-      → accounts_due text g terms at count ≡ day_due rest g d at count
+      (g : Register) (t : DayTerms) (at : ℕ) → g.held.k ≡ k
+      → accounts_due text g t at count ≡ day_due rest g (with_terms t d) at count
 
 -- the line of account j, counted from 0, is the first bad one
 pub record FirstBad (text : List ℕ) (count k j : ℕ) : Type 0 where

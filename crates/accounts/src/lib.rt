@@ -11,16 +11,16 @@ const MOST_BYTES: usize = 65_536;
 // the document's named form, in which they are lent to a day.
 #[derive(Drop)]
 pub struct Places {
-    pub headings: [Heading; 256],
-    pub npvs: [i64; 4352],
-    pub margins: [u64; 256],
-    pub extras: [u64; 256],
+    headings: [Heading; 256],
+    npvs: [i64; 4352],
+    margins: [u64; 256],
+    extras: [u64; 256],
 }
 
 impl Places {
     ghost use Rattle.std.specs.Prelude.{◌≡◌, ◌≤◌, length, MatchResult};
     ghost use Rattle.methodology.specs.Brought.{day_brought};
-    ghost use Rattle.accounts.specs.AcctLines.{cleared, day_read, AllRead, FirstBad};
+    ghost use Rattle.accounts.specs.AcctLines.{cleared, AllRead, FirstBad};
 
     pub fn empty() -> Places
         ensures { result ≡ cleared }

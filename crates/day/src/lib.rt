@@ -27,7 +27,7 @@ impl<'a> Progress<'a> {
     ghost use Rattle.std.specs.Prelude.{◌≡◌, IfSome};
     ghost use Rattle.methodology.specs.Register.{Register};
     ghost use Rattle.methodology.specs.Brought.{day_brought};
-    ghost use Rattle.accounts.specs.AcctLines.{accounts_due, day_due};
+    ghost use Rattle.accounts.specs.AcctLines.{EndsWith, accounts_due, day_due};
     ghost use Rattle.day.specs.Turns.{Stands, TurnMeets};
 
     // A day's turn, whose line is the one at the front: `rest` follows it, and begins with the acct lines, for which places are lent. It answers
@@ -43,7 +43,7 @@ impl<'a> Progress<'a> {
         requires few { (1 ≤ count) × (count ≤ 256) }
         requires counted { self.line + length rest.now < 2 ^ 63 }
         ensures turn_meets { (g : Register) → Stands g self.entry → TurnMeets (accounts_due rest.entry.now g terms self.entry.line count) printer.old printer.new result }
-        ensures further { IfSome result (λ to. length to.rest.now ≤ length rest.entry.now) }
+        ensures goes_on { IfSome result (λ to. EndsWith rest.entry.now to.rest.now × (to.n ≡ self.entry.n) × (to.k ≡ self.entry.k)) }
     {
         match places.read(rest, terms, count, self.k) {
             Ok((day, rest)) => self.sized(&day, rest, printer),
@@ -59,7 +59,7 @@ impl<'a> Progress<'a> {
         requires few { length day.now.headings.now ≤ 256 }
         requires counted { self.line + length rest.now + length day.now.headings.now < 2 ^ 63 }
         ensures turn_meets { (g : Register) → Stands g self.entry → TurnMeets (day_due rest.entry.now g (day_brought day.now) self.entry.line (length day.now.headings.now)) printer.old printer.new result }
-        ensures rest { IfSome result (λ to. to.rest.now ≡ rest.entry.now) }
+        ensures goes_on { IfSome result (λ to. (to.rest.now ≡ rest.entry.now) × (to.n ≡ self.entry.n) × (to.k ≡ self.entry.k)) }
     {
         let mut figures = [0; 160];
         let figures = &mut figures[..5 * self.n];

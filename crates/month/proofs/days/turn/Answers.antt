@@ -1,6 +1,7 @@
 -- `turn` meets its contract: the line is the end line, or a day line of the right form and count, or bad.
 use mathlib.Core.Path.{refl, sym, ap, ◌∙◌}
-use Rattle.std.specs.Prelude.{Some, ◌<◌, length}
+use Rattle.std.specs.Prelude.{Some, ℕ, ◌<◌, length}
+use Rattle.std.proofs.lemmas.List.{length-drop}
 use Rattle.std.proofs.Common.{arith}
 use Rattle.std.proofs.lemmas.Bool.Decides.{Decides-eqb}
 use Rattle.std.proofs.lemmas.Option.{IfSome_then}
@@ -41,7 +42,8 @@ take_day-requires-clause-counted c =
 pub returns-clause-further : goal.returns-clause-further
 returns-clause-further c =
     let (read, after) = c.in-Some-numbers.ensures in
-    IfSome_then _ {Q = λ to. length to.rest.now < length c.args.from.rest.now} c.take_day.ensures.further (λ to h. omega (arith, h, ap length after, line_shorter _ c.args.from.rest.now _ read))
+    IfSome_then _ {Q = λ to. length to.rest.now < length c.args.from.rest.now} c.take_day.ensures.goes_on
+    (λ to h. omega (arith, ap length h.0, length-drop {A = ℕ}, ap length after, line_shorter _ c.args.from.rest.now _ read))
 
 pub returns-clause-turn_meets : goal.returns-clause-turn_meets
 unfolding bytes
