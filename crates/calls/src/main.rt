@@ -61,6 +61,7 @@ impl<'a, P: Print> Calls<'a, P> {
         }
     }
 
+    // Each call prints what it says, and keeps the period that is returned. One function for each: what they return is of another type.
     fn opening(&mut self, call: u64, n: u64, k: u64, groups: &[u64]) -> io::Result<()> {
         let rt = self.rt;
         let Reply { period, outcome } = self.period.opening(n, k, groups);

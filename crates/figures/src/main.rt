@@ -58,7 +58,7 @@ fn close(rt: &impl Print, period: Period, out: &mut [u64]) -> io::Result<()> {
     put_rows(rt, out, 3)
 }
 
-// The house accounts of the first members.
+// The house accounts of the first members, as in `calls`: each program is read by itself.
 fn houses<const N: usize>() -> [Heading; N] {
     array::from_fn(|i| Heading {
         member: i as u64 + 1,

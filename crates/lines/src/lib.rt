@@ -67,8 +67,8 @@ pub fn numbers<'a, const N: usize>(text: &'a [u8], word: &[u8]) -> Option<([u64;
     Some((numbers, rest))
 }
 
-// "member, account, kind, base, margin, extra, stress 1 to k": an account's line, and the rest after its LF. The k + 6 values are lent, and
-// its NPVs, the base and the stresses, are left in them.
+// "member, account, kind, base, margin, extra, stress 1 to k": an account's line, and the rest after its LF. The k + 6 values are lent, as one
+// slice since k is the caller's, and its NPVs, the base and the stresses, are left in them.
 pub fn account<'a>(text: &'a [u8], values: &mut [i64]) -> Option<(AccountTerms, &'a [u8])>
     requires { 6 < length values.old }
     ensures { let read = line_read (account_of (length values.old - 6)) text.now in MatchOption result (read ≡ None) (λ r. (read ≡ Some (account_line r.0 (npvs_in values.new))) × (r.1.now ≡ after LF text.now)) }
