@@ -49,10 +49,11 @@ from_first k d r =
     (λ i h l. absurd (omega arith)) in
     rw (all, sub-zero, take_all (length accts) accts (omega arith))
 
--- what is left of all accounts, before member i + 1
+-- what is left of all accounts, before member i + 1: members rise in it still
 pub record Left (k : ℕ) (all : List Account) (i : ℕ) (a : Accounts) : Type 0 where
   pub same : a.k ≡ k
   pub left : accounts_in a ≡ from_member (i + 1) all
+  pub rising : Rising a.headings.now
 
 module _ {k : ℕ} {all : List Account} {i : ℕ} {a : Accounts} (p : Left k all i a) where
   pub left_first : accounts_in a ≡ from_member (i + 1) (accounts_in a)
@@ -63,5 +64,6 @@ module _ {k : ℕ} {all : List Account} {i : ℕ} {a : Accounts} (p : Left k all
       → (own.k ≡ k) × (accounts_in own ≡ accounts_of (i + 1) all)
   left_own own o = (o.0 ∙ p.same, o.1 ∙ rw p.left (of_from (i + 1) (i + 1) (omega arith) all))
 
-  pub left_next : (others : Accounts) → (others.k ≡ a.k) × (accounts_in others ≡ from_member (i + 1 + 1) (accounts_in a)) → Left k all (i + 1) others
-  left_next others r = record { same = r.0 ∙ p.same; left = r.1 ∙ rw p.left (from_from (i + 1) (i + 1 + 1) (omega arith) all) }
+  pub left_next : (others : Accounts) → (others.k ≡ a.k) × (accounts_in others ≡ from_member (i + 1 + 1) (accounts_in a)) → Rising others.headings.now
+      → Left k all (i + 1) others
+  left_next others r s = record { same = r.0 ∙ p.same; left = r.1 ∙ rw p.left (from_from (i + 1) (i + 1 + 1) (omega arith) all); rising = s }

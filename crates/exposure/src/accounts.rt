@@ -14,7 +14,6 @@ pub struct Accounts<'a> {
     margins: &'a [u64],
     extras: &'a [u64],
     ghost within: { Within k headings.now npvs.now margins.now extras.now },
-    ghost rising: { Rising headings.now },
     ghost few: { k ≤ 16 },
 }
 
@@ -32,9 +31,9 @@ impl<'a> Accounts<'a> {
     // All accounts of a day.
     pub fn of_day(k: u64, day: &Day<'a>) -> Accounts<'a>
         requires within { Within k day.now.headings.now day.now.npvs.now day.now.margins.now day.now.extras.now }
-        requires rising { Rising day.now.headings.now }
         requires few { k ≤ 16 }
-        ensures { (result.k ≡ k) × (accounts_in result ≡ accounts k (day_brought day.now)) }
+        ensures is { (result.k ≡ k) × (accounts_in result ≡ accounts k (day_brought day.now)) }
+        ensures rising { Rising day.now.headings.now → Rising result.headings.now }
     {
         Accounts {
             k: k as usize,
@@ -48,7 +47,8 @@ impl<'a> Accounts<'a> {
     // Those from a to b - 1.
     fn part(&self, a: usize, b: usize) -> Accounts<'a>
         requires { (a ≤ b) × (b ≤ length self.now.headings.now) }
-        ensures { (result.k ≡ self.now.k) × (accounts_in result ≡ between a b (accounts_in self.now)) }
+        ensures is { (result.k ≡ self.now.k) × (accounts_in result ≡ between a b (accounts_in self.now)) }
+        ensures rising { Rising self.now.headings.now → Rising result.headings.now }
     {
         let width = self.k + 1;
         Accounts {
@@ -67,11 +67,13 @@ impl<'a> Accounts<'a> {
         self.headings.iter().position(|heading| heading.member != m)
     }
 
-    // Where no member before m has accounts among them: those of m, and those of all members after it. Members come in rising order.
+    // Where no member before m has accounts among them: those of m, and those of all members after it.
     pub fn split(&self, m: u64) -> (Accounts<'a>, Accounts<'a>)
-        requires { accounts_in self.now ≡ from_member m (accounts_in self.now) }
+        requires rising { Rising self.now.headings.now }
+        requires from { accounts_in self.now ≡ from_member m (accounts_in self.now) }
         ensures own { (result.0.k ≡ self.now.k) × (accounts_in result.0 ≡ accounts_of m (accounts_in self.now)) }
         ensures others { (result.1.k ≡ self.now.k) × (accounts_in result.1 ≡ from_member (m + 1) (accounts_in self.now)) }
+        ensures others_rising { Rising result.1.headings.now }
     {
         let end = self.first_other(m).unwrap_or(self.headings.len());
         (self.part(0, end), self.part(end, self.headings.len()))

@@ -3,7 +3,7 @@ ghost use Rattle.std.specs.Prelude.{◌≡◌, ◌≤◌};
 ghost use Rattle.methodology.specs.Account.{accounts};
 ghost use Rattle.methodology.specs.Brought.{day_brought};
 ghost use Rattle.methodology.specs.Day.{own_max_eul};
-ghost use Rattle.validation.specs.Slices.{listed};
+ghost use Rattle.validation.specs.Slices.{listed, Rising};
 ghost use Rattle.exposure.specs.AccountsIn.{accounts_in};
 ghost use Rattle.exposure.specs.DayFigures.{Sizable, LossesAre, Grouped, FiguresAre};
 
@@ -21,7 +21,8 @@ pub struct Losses {
 
 // It and `own_max_eul` walk over members alike, and keep other things of them: a closure in common would need a contract of its own.
 fn member_losses(n: usize, all: Accounts) -> Losses
-    requires { n ≤ 32 }
+    requires members_few { n ≤ 32 }
+    requires rising { Rising all.headings.now }
     ensures { LossesAre n all.entry.k (accounts_in all.entry) result }
 {
     let mut each = [0; 32];

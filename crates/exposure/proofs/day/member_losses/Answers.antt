@@ -18,10 +18,10 @@ part_long n few = length-take-le n (replicate 32 0) few
 pub loop-i-init : goal.loop-i-init
 loop-i-init c =
     let a = c.args.all in
-    rw take-append-drop (loss_none (record { same = refl; left = from_first a.k (slices_in a) a.rising }))
+    rw take-append-drop (loss_none (record { same = refl; left = from_first a.k (slices_in a) c.requires.rising; rising = c.requires.rising }))
 
 pub split-requires : goal.split-requires
-split-requires c = left_first c.loop-i.invariant.place
+split-requires c = let p = c.loop-i.invariant.place in record { rising = p.rising; from = left_first p }
 
 pub loop-i-preserved : goal.loop-i-preserved
 loop-i-preserved c =
@@ -31,5 +31,5 @@ loop-i-preserved c =
     let loss = rw (back_ok w64 e.result e.type_inv) at c.gain.ensures in
     let own = left_own p.place s.result.0 s.ensures.own in
     rw (← set-append_left c.loop-i.loss-items _ c.loop-i.i _ (omega (arith, c.loop-i-test.true)))
-    (loss_more p s.result.0 s.result.1 own e.result _ e.ensures.is e.ensures.bound loss (omega (arith, part_long c.args.n c.requires, c.loop-i-test.true, c.requires))
-    (left_next p.place s.result.1 s.ensures.others))
+    (loss_more p s.result.0 s.result.1 own e.result _ e.ensures.is e.ensures.bound loss (omega (arith, part_long c.args.n c.requires.members_few, c.loop-i-test.true, c.requires.members_few))
+    (left_next p.place s.result.1 s.ensures.others s.ensures.others_rising))

@@ -21,10 +21,10 @@ loop-i-init c =
     let o = c.args.opening in
     let d = day_brought c.args.day.now in
     let e = c.of_day-left.ensures in
-    max_none o (accounts o.k d) (record { same = e.0; left = e.1 ∙ from_first o.k d c.requires.0.rising })
+    max_none o (accounts o.k d) (record { same = e.is.0; left = e.is.1 ∙ from_first o.k d c.requires.0.rising; rising = e.rising c.requires.0.rising })
 
 pub split-requires : goal.split-requires
-split-requires c = left_first c.loop-i.invariant.place
+split-requires c = let p = c.loop-i.invariant.place in record { rising = p.rising; from = left_first p }
 
 pub add_row-requires : goal.add_row-requires
 add_row-requires c =
@@ -45,7 +45,7 @@ loop-i-preserved c =
     let (h, group) = at_group c.args.opening c.loop-i-test.true in
     rw (c.add_row.ensures, group)
     (max_more _ _ p s.result.0 s.result.1 _ (left_own p.place s.result.0 s.ensures.own) c.row-row.ensures h c.requires.0.scenarios_few (c.requires.1.few _ h)
-    (left_next p.place s.result.1 s.ensures.others) _ _ c.row_greatest.ensures c.max-top.ensures)
+    (left_next p.place s.result.1 s.ensures.others s.ensures.others_rising) _ _ c.row_greatest.ensures c.max-top.ensures)
 
 pub returns : goal.returns
 returns c =

@@ -3,6 +3,6 @@ use mathlib.Core.Path.{refl}
 use Rattle.methodology.specs.Account.{accounts, account_at}
 use Rattle.exposure.proofs.accounts.Accounts.of_day.Goals as goal
 
-pub returns : goal.returns
+pub returns-clause-is : goal.returns-clause-is
 unfolding accounts account_at
-returns c = (refl, refl)
+returns-clause-is c = (refl, refl)
