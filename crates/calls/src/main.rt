@@ -5,8 +5,8 @@
 //
 // A call prints its number and what it says: accepted with its figures, or refused with the row and, in rows 5 and 6, the index. A day and
 // a closing then print the buffer that they were lent, which was filled with 7. The numbers stand at the calls, so that a reader finds
-// each in the stored output. The stored output was worked out from the documents, by a
-// recalculation and for calls 31 to 33 by hand, not taken from the program.
+// each in the stored output, which was worked out from the documents, by a recalculation and for calls 31 to 33 by hand, not taken from the
+// program.
 #![tactic(auto)]
 
 ghost use Rattle.std.specs.Prelude.{◌≤◌, ◌<◌, get_or};
