@@ -200,7 +200,7 @@ Text.day_lines | (totals n out) | (column_sum 5 n out 0 ∷ column_sum 5 n out 1
 Text.day_lines | (totals n out) | (column_sum 5 n out 0 ∷ column_sum 5 n out 1 ∷ column_sum 5 n out 2 ∷ 11 * column_sum 5 n out 2 / 10 ∷ column_sum 5 n out 4 ∷ [])
 Text.day_lines | (totals n out) | (column_sum 5 n out 0 ∷ column_sum 5 n out 1 ∷ 100 * get_or answer 1 0 ∷ drop 3 (totals n out))
 Text.sized | day_lines d.terms.number after.held.n (returned after call) (written after call) | printed (bytes "day") (d.terms.number ∷ returned after call) ++ rows (bytes "daily") 5 after.held.n (written after call) ++ printed (bytes "total") (totals after.held.n (flat_map (λ k. dailies g.held (reported_max_eul g.held g.days) k.accounts) (take 1 g.days)))
-Text.sized | day_lines d.terms.number after.held.n (returned after call) (written after call) | printed (bytes "day") (d.terms.number ∷ returned after call) ++ rows (bytes "daily") 5 after.held.n (written after call) ++ printed (bytes "total") (map (λ c. Σ after.days (λ k. column_sum 5 after.held.n (dailies g.held (reported_max_eul g.held after.days) k.accounts) c)) (range 0 5))
+Text.sized | day_lines d.terms.number after.held.n (returned after call) (written after call) | printed (bytes "day") (d.terms.number ∷ returned after call) ++ rows (bytes "daily") 5 after.held.n (written after call) ++ printed (bytes "total") (map (λ c. Σ after.days (λ k. column_sum 5 after.held.n (dailies g.held (reported_max_eul g.held after.days) k.accounts) c)) (range_with_len 0 5))
 Text.followed_by | report ++ rest next | rest next
 """.strip().split("\n")]
 
