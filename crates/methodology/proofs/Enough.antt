@@ -14,10 +14,10 @@ use Rattle.std.specs.Prelude.{Ok, Err}
 use Rattle.methodology.specs.declared.Refusal.TheVariants.{OutOfTurn, BadDayNumber, BadLengths}
 use Rattle.methodology.specs.declared.Opening.{Opening}
 use Rattle.methodology.specs.Account.{DayInput}
-use Rattle.methodology.specs.Refusals.{Verdict, clear, is_open, n_outside, k_outside, count_outside, bad_input, bad_output, bad_day_number, day_rows, before_figures, day_refusal}
+use Rattle.methodology.specs.Refusals.{Verdict, clear, is_open, n_outside, k_outside, count_outside, bad_input, bad_output, bad_day_number, day_rows, day_refusal}
 use Rattle.methodology.specs.Register.{Call, Register, start, last_number, refusal, accept, step}
 use Rattle.methodology.specs.Text.{bytes, same, AccountLine, Expected, period, member, day, account, after_end, Read, ends, goes_on, read_period, opened, read_member, read_day, sized, with_account, read_account, read_line}
-use Rattle.methodology.proofs.Passed.{inside, passed, passed_rows, either, by_test, number_rises}
+use Rattle.methodology.proofs.Passed.{inside, passed, either, by_test, number_rises}
 
 -- the most bytes of a good line with its LF, and of a day's lines, which are its day line and its acct lines
 abbrev pub a_line : ℕ
@@ -81,13 +81,12 @@ after_day m l g i (Some ns) h k = by_test (EnoughAfter m) (count_outside (get_or
 
 -- an accepted day's number is above the last, and at most 31
 pub rises : (g : Register) (d : DayInput) (room : ℕ) → refusal g (Call.day d room) ≡ clear → (last_number g.days < d.terms.number) × (d.terms.number ≤ 31)
-unfolding refusal day_refusal before_figures day_rows
+unfolding refusal day_refusal day_rows
 rises g d room e =
-    let (r₁, _) = passed_rows (before_figures g.status g.held (last_number g.days) d room) _ e in
-    let (_, r₂) = passed OutOfTurn (not (is_open g.status)) _ r₁ in
-    let (_, r₃) = passed BadLengths (bad_output g.held room) _ r₂ in
-    let (_, r₄) = passed BadLengths (bad_input g.held d) _ r₃ in
-    let (e3, _) = passed BadDayNumber (bad_day_number (last_number g.days) d.terms.number) _ r₄ in
+    let (_, r₁) = passed OutOfTurn (not (is_open g.status)) _ e in
+    let (_, r₂) = passed BadLengths (bad_output g.held room) _ r₁ in
+    let (_, r₃) = passed BadLengths (bad_input g.held d) _ r₂ in
+    let (e3, _) = passed BadDayNumber (bad_day_number (last_number g.days) d.terms.number) _ r₃ in
     let (high, above) = number_rises (last_number g.days) d.terms.number e3 in
     (above, high)
 

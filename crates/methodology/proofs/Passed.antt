@@ -13,31 +13,13 @@ use Rattle.methodology.specs.declared.Status.TheVariants.{Open}
 use Rattle.methodology.specs.declared.Opening.{Opening}
 use Rattle.methodology.specs.declared.Refusal.{Refusal}
 use Rattle.std.specs.Prelude.{Ok, Err}
-use Rattle.methodology.specs.declared.Refusal.TheVariants.{NoLoss}
-use Rattle.methodology.specs.Account.{DayInput, accounts}
-use Rattle.methodology.specs.Day.{total}
-use Rattle.methodology.specs.Refusals.{Verdict, clear, row◌when◌else◌, rows_of◌else◌, outside, bad_day_number, before_figures, day_refusal}
+use Rattle.methodology.specs.Refusals.{Verdict, clear, row◌when◌else◌, outside, bad_day_number}
 use Rattle.methodology.specs.Register.{Call, Register, refusal, accept, if_accepted, step}
 
 pub passed : (met : Refusal) (b : Bool) (rest : Verdict) → row met when b else rest ≡ clear → (b ≡ false) × (rest ≡ clear)
 unfolding row◌when◌else◌
 passed met true rest e = let z : ◌≡◌ {A = ℕ} 0 1 = cc in absurd (omega arith)
 passed met false rest e = (refl, e)
-
-pub passed_rows : (rows rest : Verdict) → rows_of rows else rest ≡ clear → (rows ≡ clear) × (rest ≡ clear)
-unfolding rows_of◌else◌
-passed_rows (Ok _) rest e = (refl, e)
-passed_rows (Err met) rest e = let z : ◌≡◌ {A = ℕ} 0 1 = cc in absurd (omega arith)
-
--- a day that no row refuses: none before its figures does, and row 7 leaves a loss
-pub loss_stands : (s : Status) (o : Opening) (last : ℕ) (d : DayInput) (room : ℕ) → day_refusal s o last d room ≡ clear
-    → (before_figures s o last d room ≡ clear) × (0 < total o (accounts o.k d))
-unfolding day_refusal
-loss_stands s o last d room e =
-    let (early, rest) = passed_rows (before_figures s o last d room) _ e in
-    let (some, _) = passed NoLoss (eqb (total o (accounts o.k d)) 0) clear rest in
-    let positive = eqb-false (total o (accounts o.k d)) 0 some in
-    (early, omega arith)
 
 -- the register after a call that no row refuses
 pub step_clear : (g : Register) (c : Call) → refusal g c ≡ clear → step g c ≡ accept g c

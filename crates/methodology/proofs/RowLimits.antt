@@ -12,22 +12,24 @@ use Rattle.numbers.proofs.Tests.{neither}
 use Rattle.methodology.specs.declared.Heading.{Heading}
 use Rattle.methodology.specs.declared.Status.{Status}
 use Rattle.methodology.specs.declared.Refusal.{Refusal}
-use Rattle.methodology.specs.declared.Refusal.TheVariants.{BadOpening, OutOfTurn, BadDayNumber, BadLengths, BadHeading, BadAmount, NoLoss, BadLine}
+use Rattle.methodology.specs.declared.Refusal.TheVariants.{BadOpening, OutOfTurn, BadDayNumber, BadLengths, BadHeading, BadAmount, BadLine}
 use Rattle.std.specs.Prelude.{Option, Some, None, Ok, Err}
 use Rattle.std.proofs.lemmas.List.FromFn.{length-map-range_with_len}
 use Rattle.methodology.specs.declared.Opening.{Opening}
 use Rattle.methodology.specs.Account.{DayInput, accounts, nobody}
 use Rattle.methodology.specs.RowNumbers.{row_number, row_index}
-use Rattle.methodology.specs.Refusals.{Verdict, clear, row◌when◌else◌, rows_of◌else◌, outside, count_outside, opening_refusal, bad_input, bad_heading, first_bad_heading, bad_amount, account_rows, day_rows, before_figures, day_refusal, closing_refusal}
+use Rattle.methodology.specs.Refusals.{Verdict, clear, row◌when◌else◌, outside, count_outside, opening_refusal, bad_input, bad_heading, first_bad_heading, bad_amount, account_rows, day_rows, day_refusal, closing_refusal}
 use Rattle.methodology.specs.Register.{Call, Register, last_number, refusal}
 use Rattle.methodology.proofs.Passed.{inside}
 
--- the numbers that occur: 1 to 9, as document 01's table has them, but for 8, which document 02's Change 2 takes away
+-- the numbers that occur: 1 to 9, as document 01's table has them, but for 7 and 8, which document 02's Changes 4 and 2 take away
 abbrev pub occurs : (number : ℕ) → Bool
-occurs number = not (outside 1 9 number || eqb number 8)
+occurs number = not (outside 1 9 number || eqb number 7 || eqb number 8)
 
 pub at_most_9 : (number : ℕ) → occurs number ≡ true → number ≤ 9
-at_most_9 number h = (inside 1 9 number (neither (outside 1 9 number) (eqb number 8) (not-true _ h)).0).1
+at_most_9 number h =
+    let (but_8, _) = neither _ (eqb number 8) (not-true _ h) in
+    (inside 1 9 number (neither (outside 1 9 number) (eqb number 7) but_8).0).1
 
 pub row_occurs : (met : Refusal) → occurs (row_number met) ≡ true
 row_occurs BadOpening = refl
@@ -36,7 +38,6 @@ row_occurs BadDayNumber = refl
 row_occurs BadLengths = refl
 row_occurs (BadHeading index) = refl
 row_occurs (BadAmount index) = refl
-row_occurs NoLoss = refl
 row_occurs BadLine = refl
 
 -- an index, where there is one, is at most 256
@@ -71,11 +72,6 @@ unfolding row◌when◌else◌
 when_few met true rest h f = h
 when_few met false rest h f = f refl
 
-rows_few : (x rest : Verdict) → RowFew x → RowFew rest → RowFew (rows_of x else rest)
-unfolding rows_of◌else◌
-rows_few (Ok _) rest h f = f
-rows_few (Err met) rest h f = h
-
 -- ---- the tables
 
 pub opening_few : (s : Status) (o : Opening) → RowFew (opening_refusal s o)
@@ -98,15 +94,13 @@ account_rows_few o d few =
 
 -- whichever of rows 3 and 4 stands first
 pub day_few : (s : Status) (o : Opening) (last : ℕ) (d : DayInput) (room : ℕ) → RowFew (day_refusal s o last d room)
-unfolding day_refusal before_figures day_rows
+unfolding day_refusal day_rows
 day_few s o last d room =
-    rows_few (before_figures s o last d room) _
-    (when_few _ _ _ tt
+    when_few _ _ _ tt
     (λ h. when_few _ _ _ tt
     (λ k. when_few _ _ _ tt
     (λ e. when_few _ _ _ tt
-    (λ f. account_rows_few o d (grind (arith, count_few o d)))))))
-    (when_few NoLoss _ clear tt (λ e. tt))
+    (λ f. account_rows_few o d (grind (arith, count_few o d))))))
 
 pub closing_few : (s : Status) (o : Opening) (room : ℕ) → RowFew (closing_refusal s o room)
 unfolding closing_refusal

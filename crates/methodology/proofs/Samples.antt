@@ -13,10 +13,9 @@ use Rattle.methodology.specs.declared.Opening.{Opening}
 use Rattle.methodology.specs.Account.{DayInput, account_at, accounts, decrease, eul_of, eul_under, largest_decrease, own_eul}
 use Rattle.methodology.specs.Member.{accounts_of, house_eul, half_of_clients, two_largest_of_r, part_b, part_c, member_eul, member_under, member_own, loss}
 use Rattle.methodology.specs.Day.{total, group_of, group_sum, own_max_eul, share, value, reserve, estimate, five, dailies}
-use Rattle.methodology.specs.Contribution.{reported_max_eul, highest, sum_of_shares, charge, raw, funded, unfunded, exact_charge, shortfall, allowance, three, contributions, total_funded}
+use Rattle.methodology.specs.Contribution.{reported_max_eul, highest, counted, sum_of_shares, charge, raw, funded, unfunded, exact_charge, shortfall, allowance, three, contributions, total_funded}
 use Rattle.methodology.specs.Refusals.{
   row◌when◌else◌,
-  rows_of◌else◌,
   bad_opening,
   opening_refusal,
   bad_day_number,
@@ -26,7 +25,6 @@ use Rattle.methodology.specs.Refusals.{
   bad_amount,
   account_rows,
   day_rows,
-  before_figures,
   day_refusal,
   closing_refusal,
 }
@@ -34,7 +32,7 @@ use Rattle.methodology.specs.Register.{Register, Call, opening, day, closing, An
 
 -- Who unfolds this unfolds every definition on its line, so that the examples compute.
 unfoldable pub computed : Unit {0}
-unfolding flat_map insert descending Σ Σℤ greatest Σᶠ ceil_div round_div account_at accounts decrease eul_of eul_under largest_decrease own_eul accounts_of house_eul half_of_clients two_largest_of_r part_b part_c member_eul member_under member_own loss total group_of group_sum own_max_eul share value reserve estimate five dailies reported_max_eul highest sum_of_shares charge raw funded unfunded exact_charge shortfall allowance three contributions total_funded row◌when◌else◌ rows_of◌else◌ bad_opening opening_refusal bad_day_number bad_heading first_bad_heading last_missing bad_amount account_rows day_rows before_figures day_refusal closing_refusal refusal accept step returned written answer buffer
+unfolding flat_map insert descending Σ Σℤ greatest Σᶠ ceil_div round_div account_at accounts decrease eul_of eul_under largest_decrease own_eul accounts_of house_eul half_of_clients two_largest_of_r part_b part_c member_eul member_under member_own loss total group_of group_sum own_max_eul share value reserve estimate five dailies reported_max_eul highest counted sum_of_shares charge raw funded unfunded exact_charge shortfall allowance three contributions total_funded row◌when◌else◌ bad_opening opening_refusal bad_day_number bad_heading first_bad_heading last_missing bad_amount account_rows day_rows day_refusal closing_refusal refusal accept step returned written answer buffer
 computed = tt
 
 -- "Kinds: H (0) house; R (1) [..]; A (2) [..]; U (3) [..]": document 01's numbers, and not the definitions', which the examples hold.

@@ -1,8 +1,9 @@
 -- Document 01, "From days to the contribution": from the days of a period to each member's charge; 001, 6.1.1(i) and (ii), 6.1.2. By
 -- document 02's Change 2 a period may have none: "A closing with no accepted day now gives M 0, D 0, raw 0 and funded 50,000,000 for every
--- member." By its Change 3 the Max EUL that a day reports goes by the days up to it, and with it.
-use Rattle.std.specs.Prelude.{cond, ℕ, ◌-◌, ◌*◌, max, eqb, length}
+-- member." By its Change 3 the Max EUL that a day reports goes by the days up to it, and with it. By its Change 4 a day may be without losses.
+use Rattle.std.specs.Prelude.{Bool, cond, ℕ, ◌-◌, ◌*◌, max, ltb, eqb, length}
 use mathlib.Core.List.{List, [], ◌∷◌, flat_map}
+use Rattle.std.specs.List.{filter}
 use Rattle.numbers.specs.Sums.{Σ, greatest}
 use Rattle.numbers.specs.Fractions.{Fraction, ◌over◌, whole, ◌⊕◌, ◌⊗◌, Σᶠ}
 use Rattle.numbers.specs.Rounding.{ceil_div}
@@ -21,14 +22,22 @@ pub record KeptDay : Type 0 where
 unfoldable pub reported_max_eul : Opening → List KeptDay → ℕ
 reported_max_eul o days = greatest days (λ d. own_max_eul o d.accounts)
 
--- M. "M is the highest Max EUL among the days accepted since the last accepted opening, D their number": D is the length of the list. With
--- no day both are 0, as the greatest of none is. Each day's Max EUL is its own here: "M does not change" (Change 3).
+-- M. "M is the highest Max EUL among the days accepted since the last accepted opening", those without losses among them. With no day it is
+-- 0, as the greatest of none is. Each day's Max EUL is its own here: "M does not change" (Change 3).
 unfoldable pub highest : Opening → List KeptDay → ℕ
 highest o days = greatest days (λ d. own_max_eul o d.accounts)
 
--- the "sum of the member's shares"
+-- Change 4: a day without losses "is left out of D and of the mean". Whether a day with this T counts.
+abbrev pub counts : (T : ℕ) → Bool
+counts T = ltb 0 T
+
+-- The days that count. "D their number" is the length of this list.
+unfoldable pub counted : Opening → List KeptDay → List KeptDay
+counted o days = filter (λ d. counts (total o d.accounts)) days
+
+-- the "sum of the member's shares", over the days that count
 unfoldable pub sum_of_shares : Opening → List KeptDay → (m : ℕ) → ℕ
-sum_of_shares o days m = Σ days (λ d. share (loss o.k d.accounts m) (total o d.accounts))
+sum_of_shares o days m = Σ (counted o days) (λ d. share (loss o.k d.accounts m) (total o d.accounts))
 
 -- "A raw charge is 11·M·(sum of the member's shares) / (10·D·10^12), rounded up": from M, the sum S and D, and of member m. Where D is 0 it
 -- is 0 (Change 2).
@@ -36,7 +45,7 @@ unfoldable pub charge : (M S D : ℕ) → ℕ
 charge M S D = cond (eqb D 0) 0 (ceil_div (11 * M * S) (10 * D * scale))
 
 unfoldable pub raw : Opening → List KeptDay → (m : ℕ) → ℕ
-raw o days m = charge (highest o days) (sum_of_shares o days m) (length days)
+raw o days m = charge (highest o days) (sum_of_shares o days m) (length (counted o days))
 
 -- the Rates and FX Minimum Contribution Amount; 001, 6.1.1(i)
 abbrev pub minimum : ℕ
@@ -50,12 +59,13 @@ funded rawCharge = max rawCharge minimum
 unfoldable pub unfunded : (rawCharge : ℕ) → ℕ
 unfunded rawCharge = 2 * funded rawCharge
 
--- "An exact charge is 11·M·(sum of the member's e/T over these days) / (10·D), a fraction over whole numbers with nothing rounded." Where D
--- is 0 it is 0 over 1: "with every exact charge 0 in such a period" (Change 2).
+-- "An exact charge is 11·M·(sum of the member's e/T over these days) / (10·D), a fraction over whole numbers with nothing rounded."
+-- "These days" are those that count: "the bounds on charges rest on the remaining days" (Change 4). Where D is 0 it is 0 over 1: "with every
+-- exact charge 0 in such a period" (Change 2).
 unfoldable pub exact_charge : Opening → List KeptDay → (m : ℕ) → Fraction
 exact_charge o days m =
-    let D = length days in
-    cond (eqb D 0) (0 over 1) ((11 * highest o days) over (10 * D) ⊗ Σᶠ days (λ d. loss o.k d.accounts m over total o d.accounts))
+    let D = length (counted o days) in
+    cond (eqb D 0) (0 over 1) ((11 * highest o days) over (10 * D) ⊗ Σᶠ (counted o days) (λ d. loss o.k d.accounts m over total o d.accounts))
 
 -- "A member's shortfall is 50,000,000 less its raw charge, or 0 where that is negative": a natural number's `-` stops at 0.
 unfoldable pub shortfall : (rawCharge : ℕ) → ℕ

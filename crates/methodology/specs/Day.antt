@@ -57,9 +57,10 @@ reserve e Max T = round_div (110 * e * Max) T
 unfoldable pub estimate : (e Max T : ℕ) → ℕ
 estimate e Max T = round_div (220 * e * Max) T
 
--- a member's five daily numbers: "(e, share, value, reserve, estimate)"
+-- A member's five daily numbers: "(e, share, value, reserve, estimate)". On a day without losses, where T is 0, "every member's e, share and
+-- cents are 0" (Change 4).
 unfoldable pub five : (e Max T : ℕ) → List ℕ
-five e Max T = e ∷ share e T ∷ value e Max T ∷ reserve e Max T ∷ estimate e Max T ∷ []
+five e Max T = cond (eqb T 0) (0 ∷ 0 ∷ 0 ∷ 0 ∷ 0 ∷ []) (e ∷ share e T ∷ value e Max T ∷ reserve e Max T ∷ estimate e Max T ∷ [])
 
 -- what a day writes: "5 numbers a member [..], each member's five into its own stretch"
 unfoldable pub dailies : Opening → (Max : ℕ) → List Account → List ℕ

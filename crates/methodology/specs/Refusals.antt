@@ -1,5 +1,5 @@
--- Document 01, "Calls on a period": the refusal table, call by call, each row in its order of precedence: opening 2, 1; day 2, 4, 3, 5, 6,
--- 7; closing 2, 4. Each row has a name here, and its number in RowNumbers.antt; 9 is the text's. `Heading`, `Opening`, `DayTerms`, `Status` and
+-- Document 01, "Calls on a period": the refusal table, call by call, each row in its order of precedence: opening 2, 1; day 2, 4, 3, 5, 6;
+-- closing 2, 4. Each row has a name here, and its number in RowNumbers.antt; 9 is the text's. `Heading`, `Opening`, `DayTerms`, `Status` and
 -- `Refusal` are declared in src/lib.rt.
 use Rattle.std.specs.Prelude.{Bool, true, false, not, ◌&&◌, ◌||◌, cond, List, [], ◌∷◌, ℕ, suc, Result, Ok, Err, ◌+◌, ◌*◌, leb, ltb, eqb, ℤ, pos, neg_ℤ, length}
 use Rattle.std.specs.Int.Signed.{lt_z}
@@ -8,10 +8,9 @@ use Rattle.methodology.specs.declared.Heading.{Heading}
 use Rattle.methodology.specs.declared.Status.{Status}
 use Rattle.methodology.specs.declared.Status.TheVariants.{Fresh, Open, Closed}
 use Rattle.methodology.specs.declared.Refusal.{Refusal}
-use Rattle.methodology.specs.declared.Refusal.TheVariants.{BadOpening, OutOfTurn, BadDayNumber, BadLengths, BadHeading, BadAmount, NoLoss}
+use Rattle.methodology.specs.declared.Refusal.TheVariants.{BadOpening, OutOfTurn, BadDayNumber, BadLengths, BadHeading, BadAmount}
 use Rattle.methodology.specs.declared.Opening.{Opening}
 use Rattle.methodology.specs.Account.{DayInput, Account, accounts, nobody, kind_h, kind_r, kind_a, kind_u}
-use Rattle.methodology.specs.Day.{total}
 
 -- what the table says of a call: the first row that it meets, or that it meets none
 abbrev pub Verdict : Type 0
@@ -21,15 +20,9 @@ abbrev pub clear : Verdict
 clear = Ok tt
 
 infixr 20 row◌when◌else◌
-infixr 20 rows_of◌else◌
 -- a row of the table: its name, its condition, and the rows after it
 unfoldable pub row◌when◌else◌ : (row : Refusal) → (condition : Bool) → (rest : Verdict) → Verdict
 row r when condition else rest = cond condition (Err r) rest
-
--- rows that have a name of their own, and the rows after them
-unfoldable pub rows_of◌else◌ : (rows rest : Verdict) → Verdict
-rows_of Ok _ else rest = rest
-rows_of Err r else rest = Err r
 
 abbrev pub is_open : Status → Bool
 is_open Fresh = false
@@ -164,19 +157,13 @@ day_rows o last d =
     row BadDayNumber when bad_day_number last d.terms.number else
     account_rows o d
 
--- The rows of a day call before its figures: 2, 4, 3, 5, 6. Row 2: "day [..] while not open". Row 4 is met by the output or by the input.
-unfoldable pub before_figures : Status → Opening → (last : ℕ) → DayInput → (room : ℕ) → Verdict
-before_figures s o last d room =
+-- "day 2, 4, 3, 5, 6". Row 2: "day [..] while not open". Row 4 is met by the output or by the input. A day without losses is as good as any
+-- (Change 4).
+unfoldable pub day_refusal : Status → Opening → (last : ℕ) → DayInput → (room : ℕ) → Verdict
+day_refusal s o last d room =
     row OutOfTurn when not (is_open s) else
     row BadLengths when bad_output o room else
     day_rows o last d
-
--- "day 2, 4, 3, 5, 6, 7". Row 7: "T is 0".
-unfoldable pub day_refusal : Status → Opening → (last : ℕ) → DayInput → (room : ℕ) → Verdict
-day_refusal s o last d room =
-    rows_of before_figures s o last d room else
-    row NoLoss when eqb (total o (accounts o.k d)) 0 else
-    clear
 
 -- ---- closing
 

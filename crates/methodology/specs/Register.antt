@@ -7,7 +7,7 @@ use Rattle.methodology.specs.declared.Refusal.{Refusal}
 use Rattle.methodology.specs.declared.Opening.{Opening}
 use Rattle.methodology.specs.Account.{DayInput, no_opening, accounts}
 use Rattle.methodology.specs.Day.{total, dailies}
-use Rattle.methodology.specs.Contribution.{KeptDay, reported_max_eul, highest, contributions, total_funded}
+use Rattle.methodology.specs.Contribution.{KeptDay, reported_max_eul, highest, counted, contributions, total_funded}
 use Rattle.methodology.specs.RowNumbers.{row_number, row_index}
 use Rattle.methodology.specs.Refusals.{Verdict, opening_refusal, day_refusal, closing_refusal}
 
@@ -69,11 +69,11 @@ pub data Answer : Type 0 where
 
 -- The figures that an accepted call returns, "worked from that call's arguments and the register as the call leaves it" (demand 3): a day
 -- "returns T and Max EUL", a closing "returns D, M and the total funded". A day's Max EUL is the one that it reports (document 02, Change
--- 3), over the days that the register keeps, this one among them.
+-- 3), over the days that the register keeps, this one among them; D goes by those of them that count (Change 4).
 unfoldable pub returned : (after : Register) → Call → List ℕ
 returned g (opening o) = []
 returned g (day d room) = total g.held (accounts g.held.k d) ∷ reported_max_eul g.held g.days ∷ []
-returned g (closing room) = length g.days ∷ highest g.held g.days ∷ total_funded g.held g.days ∷ []
+returned g (closing room) = length (counted g.held g.days) ∷ highest g.held g.days ∷ total_funded g.held g.days ∷ []
 
 -- what an accepted call writes to its lent buffer; an opening is lent none
 unfoldable pub written : (after : Register) → Call → List ℕ

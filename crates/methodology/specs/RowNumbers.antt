@@ -1,8 +1,8 @@
--- Document 01, "Calls on a period": the numbers by which the refusal table names its rows, "Returned". By document 02's Change 2, "Number 8
--- no longer occurs". `Refusal` is declared in src/lib.rt.
+-- Document 01, "Calls on a period": the numbers by which the refusal table names its rows, "Returned". By document 02's Changes 2
+-- and 4 numbers 8 and 7 no longer occur. `Refusal` is declared in src/lib.rt.
 use Rattle.std.specs.Prelude.{ℕ, Option, Some, None}
 use Rattle.methodology.specs.declared.Refusal.{Refusal}
-use Rattle.methodology.specs.declared.Refusal.TheVariants.{BadOpening, OutOfTurn, BadDayNumber, BadLengths, BadHeading, BadAmount, NoLoss, BadLine}
+use Rattle.methodology.specs.declared.Refusal.TheVariants.{BadOpening, OutOfTurn, BadDayNumber, BadLengths, BadHeading, BadAmount, BadLine}
 
 abbrev pub row_number : Refusal → ℕ
 -- "opening: n, k or a group outside its limit, or group list not n long"
@@ -17,8 +17,6 @@ row_number BadLengths = 4
 row_number (BadHeading index) = 5
 -- "6, index of first bad account"
 row_number (BadAmount index) = 6
--- "T is 0"
-row_number NoLoss = 7
 -- "9, line": "text not as below"
 row_number BadLine = 9
 
@@ -30,5 +28,4 @@ row_index BadDayNumber = None
 row_index BadLengths = None
 row_index (BadHeading index) = Some index
 row_index (BadAmount index) = Some index
-row_index NoLoss = None
 row_index BadLine = None

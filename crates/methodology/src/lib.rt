@@ -78,12 +78,11 @@ pub enum Refusal {
     BadLengths,
     BadHeading(u64),
     BadAmount(u64),
-    NoLoss,
     BadLine,
 }
 
 impl Refusal {
-    // The number that document 01's table returns for the row. "Number 8 no longer occurs" (document 02, Change 2).
+    // The number that document 01's table returns for the row. Numbers 7 and 8 no longer occur (document 02, Changes 4 and 2).
     pub fn number(self) -> u64
         ensures { result ≡ row_number self }
     {
@@ -94,7 +93,6 @@ impl Refusal {
             Refusal::BadLengths => 4,
             Refusal::BadHeading(_) => 5,
             Refusal::BadAmount(_) => 6,
-            Refusal::NoLoss => 7,
             Refusal::BadLine => 9,
         }
     }
