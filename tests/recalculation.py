@@ -1,5 +1,5 @@
 #!/usr/bin/env python3
-"""Document 01, with Changes 1 to 3 of document 02, recalculated in its own order, with exact fractions.
+"""Document 01, with Changes 1 to 4 of document 02, recalculated in its own order, with exact fractions.
 
 Reads a month's text on standard input and writes the report on standard output.
 """
@@ -66,7 +66,10 @@ def day_figures(n, k, groups, accounts):
 
 
 def five(e, t, max_eul):
-    """A member's loss, share, and value, reserve and estimate in cents, by the Max EUL that the day reports."""
+    """A member's loss, share, and value, reserve and estimate in cents, by the Max EUL that the day reports; all 0 on a day without losses
+    (document 02, Change 4)."""
+    if t == 0:
+        return [0] * 5
     share = ceil(Fraction(e * SHARE, t))
     cents = [nearest(Fraction(percent * e * max_eul, t)) for percent in (100, 110, 220)]
     return [e, share] + cents
@@ -80,7 +83,7 @@ def nearest(fraction):
 # From days to the contribution
 
 def three(m, d, shares):
-    """A member's raw charge, funded and unfunded contribution, from its share of each day."""
+    """A member's raw charge, funded and unfunded contribution, from its share of each of the d days that count."""
     raw = ceil(Fraction(11 * m * sum(shares), 10 * d * SHARE)) if d > 0 else 0
     funded = max(raw, MINIMUM)
     return [raw, funded, 2 * funded]
@@ -102,10 +105,11 @@ class Period:
         self.n, self.k, self.groups = n, k, groups
         self.last = 0
         self.own = []                               # of each accepted day its own Max EUL
+        self.counted = 0                            # the days with T above 0: D (document 02, Change 4)
         self.shares = [[] for _ in range(n)]
 
     def day(self, number, accounts):
-        """The day call: T, Max EUL and five numbers a member. In order: 4, 3, 5, 6, 7."""
+        """The day call: T, Max EUL and five numbers a member. In order: 4, 3, 5, 6."""
         if not 1 <= len(accounts) <= 256:
             raise Refusal(4)
         if not 1 <= number <= 31 or number <= self.last:
@@ -117,14 +121,14 @@ class Period:
             if bad_amount(account):
                 raise Refusal(6, i)
         t, own, losses = day_figures(self.n, self.k, self.groups, accounts)
-        if t == 0:
-            raise Refusal(7)
         self.last = number
         self.own.append(own)
         reported = max(self.own)                    # the highest so far (document 02, Change 3)
         fives = [five(e, t, reported) for e in losses]
-        for shares, figures in zip(self.shares, fives):
-            shares.append(figures[1])
+        if t > 0:
+            self.counted += 1
+            for shares, figures in zip(self.shares, fives):
+                shares.append(figures[1])
         return t, reported, fives
 
     def bad_heading(self, accounts):
@@ -146,7 +150,7 @@ class Period:
 
     def closing(self):
         """The closing call: D, M, the total funded and three numbers a member."""
-        d, m = len(self.own), max(self.own, default=0)
+        d, m = self.counted, max(self.own, default=0)
         threes = [three(m, d, shares) for shares in self.shares]
         return d, m, sum(figures[1] for figures in threes), threes
 
@@ -263,7 +267,7 @@ def one_day(lines, day_line, k, period, say):
         if held > 65_536:                       # the line that passes this is bad
             raise Refusal(9)
         accounts.append(Account(member, account, letter, base, margin, extra, stress))
-    t, max_eul, fives = call(lambda: period.day(day, accounts), {3: at, 4: at, 7: at}, at + 1)
+    t, max_eul, fives = call(lambda: period.day(day, accounts), {3: at, 4: at}, at + 1)
     say("day", day, t, max_eul)
     for i, figures in enumerate(fives, 1):
         say("daily", i, *figures)

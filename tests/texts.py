@@ -211,7 +211,7 @@ BOTH = [
     ("6 for the first account, not the first slice", example((5, acct(1, 0, "H", 0, 1000000000001, 0, 0)), (6, house(2, 1000000000001)))),
     ("extra above margin", example((6, acct(2, 0, "H", 1, 5, 6, 0)))),
     ("9 before 6", example((5, acct(1, 0, "H", 0, 0, 1, 0)), (6, acct(2, 0, "H", 0, -1, 0, 0)))),
-    ("7 at the day line", example((5, house(1, 0)), (6, house(2, 0)))),
+    ("a day without losses, alone", example((5, house(1, 0)), (6, house(2, 0)))),
     ("x for a number", example((5, house(1, "x")))),
     ("-0", example((5, house(1, "-0")))),
     ("-01", example((5, house(1, "-01")))),

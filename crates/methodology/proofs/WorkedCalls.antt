@@ -150,7 +150,7 @@ not_begun =
     ∷ none_of_one
     ∷ brings 1 1 (0 ∷ []) gets accepted []
     ∷ losses 0 (5 ∷ []) gets refused 3
-    ∷ losses 1 (0 ∷ []) gets refused 7
+    ∷ losses 1 (1000000000001 ∷ []) gets refused_at 6 0
     ∷ none_of_one
     ∷ []
 
@@ -450,18 +450,16 @@ while_open =
     -- by account, not by slice
     ∷ on 6 (with_amounts 1 (pos 1000000000001) 0 0 (pos 0) ∷ with_amounts 2 (pos 0) 1000000000001 0 (pos 0) ∷ house 3 ∷ []) gets refused_at 6 0
     ∷ on 6 (with_amounts 1 (pos 0) 5 6 (pos 0) ∷ with_amounts 2 (pos 1000000000001) 0 0 (pos 0) ∷ house 3 ∷ []) gets refused_at 6 0
-    -- 6 before 7, and 7
+    -- on a day without losses
     ∷ on 6 (with_amounts 1 (pos 0) 1 0 (pos 0) ∷ with_amounts 2 (pos 0) 1000000000001 0 (pos 1) ∷ with_amounts 3 (pos 0) 1 0 (pos 0) ∷ []) gets refused_at 6 1
-    ∷ on 6 nothing_lost gets refused 7
     -- three days
     ∷ on 5 mixed
     gets accepted (202 ∷ 136 ∷ [])
     writing (130 ∷ 643564356436 ∷ 8752 ∷ 9628 ∷ 19255 ∷ 72 ∷ 356435643565 ∷ 4848 ∷ 5332 ∷ 10665 ∷ 0 ∷ 0 ∷ 0 ∷ 0 ∷ 0 ∷ [])
-    -- refused days between accepted ones leave nothing behind, 3 before 5, 6 and 7 where the number is not above the last
+    -- refused days between accepted ones leave nothing behind, 3 before 5 and 6 where the number is not above the last
     ∷ on 20 [] gets refused 4
     ∷ on 20 (house 1 ∷ []) gets refused_at 5 1
     ∷ on 20 (with_amounts 1 (pos 1000000000001) 0 0 (pos 0) ∷ house 2 ∷ house 3 ∷ []) gets refused_at 6 0
-    ∷ on 20 nothing_lost gets refused 7
     ∷ on 32 (house 1 ∷ house 2 ∷ house 3 ∷ []) gets refused 3
     ∷ lending 5 (drop 1) as_it_is as_it_is gets refused 4
     ∷ lending 5 as_it_is (drop 1) as_it_is gets refused 4

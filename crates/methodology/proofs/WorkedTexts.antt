@@ -188,8 +188,8 @@ texts =
     ∷ ("period\t2\t1\nmember\t1\t0\nmember\t2\t0\nday\t3\t2\nacct\t1\t0\tH\t390000000\t0\t0\t0\nacct\t2\t0\tH\t1\t5\t6\t0\nend\n" gives "refused\t6\t6\n")
     -- 9 before 6
     ∷ ("period\t2\t1\nmember\t1\t0\nmember\t2\t0\nday\t3\t2\nacct\t1\t0\tH\t0\t0\t1\t0\nacct\t2\t0\tH\t0\t-1\t0\t0\nend\n" gives "refused\t9\t6\n")
-    -- 7 at the day line
-    ∷ ("period\t2\t1\nmember\t1\t0\nmember\t2\t0\nday\t3\t2\nacct\t1\t0\tH\t0\t0\t0\t0\nacct\t2\t0\tH\t0\t0\t0\t0\nend\n" gives "refused\t7\t4\n")
+    -- a day without losses, alone
+    ∷ ("period\t2\t1\nmember\t1\t0\nmember\t2\t0\nday\t3\t2\nacct\t1\t0\tH\t0\t0\t0\t0\nacct\t2\t0\tH\t0\t0\t0\t0\nend\n" gives "day\t3\t0\t0\ndaily\t1\t0\t0\t0\t0\t0\ndaily\t2\t0\t0\t0\t0\t0\ntotal\t0\t0\t0\t0\t0\nfund\t0\t0\t100000000\ncontribution\t1\t0\t50000000\t100000000\ncontribution\t2\t0\t50000000\t100000000\n")
     -- x for a number
     ∷ ("period\t2\t1\nmember\t1\t0\nmember\t2\t0\nday\t3\t2\nacct\t1\t0\tH\tx\t0\t0\t0\nacct\t2\t0\tH\t10000000\t0\t0\t0\nend\n" gives "refused\t9\t5\n")
     -- -0
@@ -367,7 +367,7 @@ texts =
     -- 6 on a second day
     ∷ ("period\t1\t1\nmember\t1\t0\nday\t1\t1\nacct\t1\t0\tH\t10\t0\t0\t0\nday\t2\t2\nacct\t1\t0\tH\t10\t0\t0\t0\nacct\t1\t1\tU\t10\t1\t2\t0\nend\n" gives "day\t1\t10\t10\ndaily\t1\t10\t1000000000000\t1000\t1100\t2200\ntotal\t10\t1000000000000\t1000\t1100\t2200\nrefused\t6\t7\n")
     -- 7 on a second day
-    ∷ ("period\t1\t1\nmember\t1\t0\nday\t1\t1\nacct\t1\t0\tH\t10\t0\t0\t0\nday\t2\t1\nacct\t1\t0\tH\t0\t0\t0\t0\nend\n" gives "day\t1\t10\t10\ndaily\t1\t10\t1000000000000\t1000\t1100\t2200\ntotal\t10\t1000000000000\t1000\t1100\t2200\nrefused\t7\t5\n")
+    ∷ ("period\t1\t1\nmember\t1\t0\nday\t1\t1\nacct\t1\t0\tH\t10\t0\t0\t0\nday\t2\t1\nacct\t1\t0\tH\t0\t0\t0\t0\nend\n" gives "day\t1\t10\t10\ndaily\t1\t10\t1000000000000\t1000\t1100\t2200\ntotal\t10\t1000000000000\t1000\t1100\t2200\nday\t2\t0\t10\ndaily\t1\t0\t0\t0\t0\t0\ntotal\t0\t0\t0\t0\t0\nfund\t1\t10\t50000000\ncontribution\t1\t11\t50000000\t100000000\n")
     -- 9 on a second day
     ∷ ("period\t1\t1\nmember\t1\t0\nday\t1\t1\nacct\t1\t0\tH\t10\t0\t0\t0\nday\t2\t2\nacct\t1\t0\tH\t10\t0\t0\t0\nacct\t1\tx\tU\t10\t0\t0\t0\nend\n" gives "day\t1\t10\t10\ndaily\t1\t10\t1000000000000\t1000\t1100\t2200\ntotal\t10\t1000000000000\t1000\t1100\t2200\nrefused\t9\t7\n")
     -- days that leave numbers out
