@@ -1,18 +1,23 @@
--- A day's own Max EUL is at most its total: no EUL under a scenario is above the member's loss, and a group is a part of the members.
+-- A day's own Max EUL is at most its total: no EUL under a scenario is above the member's loss, and a group is a part of the members. So it is
+-- 0 on a day without losses, and M is the same over all days and over those that count (document 02, Change 4).
+use mathlib.Core.Path.{◌≡◌, refl, sym, ap, ◌∙◌}
 use mathlib.Core.Bool.{Bool, true, false, cond}
 use mathlib.Core.List.{List, [], ◌∷◌}
-use Prim.Native.Nat.{ℕ, ◌≤◌}
+use Prim.Native.Nat.{ℕ, ◌≤◌, max}
 use native.Mathlib.Omega.{arith}
 use lib.Dec.{eqb}
+use borrow.Author.Tests.{ltb-false}
 use Rattle.numbers.specs.Signed.{◌⁺}
 use Rattle.std.specs.List.{filter}
-use Rattle.numbers.specs.Sums.{Σ}
+use Rattle.numbers.specs.Sums.{Σ, greatest}
 use Rattle.numbers.proofs.Lists.{◌∈◌}
 use Rattle.numbers.proofs.Sums.{Σ-elem, Σ-mono, Σ-keep_le, Σℤ-⁺, greatest_le}
 use Rattle.methodology.specs.declared.Opening.{Opening}
 use Rattle.methodology.specs.Account.{Account, members, scenarios}
 use Rattle.methodology.specs.Member.{member_under, loss}
 use Rattle.methodology.specs.Day.{group_number, group_of, group_sum, own_max_eul, total}
+use Rattle.methodology.specs.Contribution.{KeptDay, highest, counts, counted}
+use Rattle.methodology.proofs.Counted.{counted_cons, counted_skip}
 use Rattle.exposure.proofs.Monotone.{loss_le}
 
 -- a figure summed over a member's group is at most the sum over all members
@@ -50,3 +55,22 @@ module _ (o : Opening) (accts : List Account) where
         greatest_le (members o.n) _ (total o accts) (λ m i. greatest_le (scenarios o.k) _ (total o accts) (λ j l. under_le_total i l)),
         greatest_le (members o.n) _ (total o accts) (λ m i. greatest_le (scenarios o.k) _ (total o accts) (λ j l. group_le_total i l)),
       )
+
+  -- where T is 0
+  pub own_none : total o accts ≡ 0 → own_max_eul o accts ≡ 0
+  own_none none = omega (arith, none, max_le_total)
+
+module _ (o : Opening) where
+  -- a day without losses raises no M
+  pub highest_skip : (d : KeptDay) (days : List KeptDay) → total o d.accounts ≡ 0 → highest o (d ∷ days) ≡ highest o days
+  unfolding highest greatest
+  highest_skip d days none = omega (arith, own_none o d.accounts none)
+
+  pub highest_counted : (days : List KeptDay) → highest o (counted o days) ≡ highest o days
+  unfolding highest greatest counted
+  highest_counted [] = refl
+  highest_counted (d ∷ ds) = by (counts (total o d.accounts)) refl (highest_counted ds)
+    where
+      by : (t : Bool) → counts (total o d.accounts) ≡ t → highest o (counted o ds) ≡ highest o ds → highest o (counted o (d ∷ ds)) ≡ highest o (d ∷ ds)
+      by true e h = rw (counted_cons o d ds e) (ap (max (own_max_eul o d.accounts)) h)
+      by false e h = rw (counted_skip o d ds e) (h ∙ sym (highest_skip d ds (omega (arith, ltb-false 0 _ e))))

@@ -11,3 +11,4 @@ pub mod Cut
 pub mod Reports
 pub mod Short
 pub mod SoFar
+pub mod Counted

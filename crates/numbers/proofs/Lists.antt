@@ -129,7 +129,7 @@ module _ {A : Type 0} where
 
 -- the elements that pass a test
 module _ {A : Type 0} (p : A → Bool) where
-  keep_append : (xs ys : List A) → filter p (xs ++ ys) ≡ filter p xs ++ filter p ys
+  pub keep_append : (xs ys : List A) → filter p (xs ++ ys) ≡ filter p xs ++ filter p ys
   keep_append [] ys = refl
   keep_append (x ∷ xs) ys = rw (keep_append xs ys) (by (p x))
     where
@@ -161,7 +161,7 @@ module _ {A : Type 0} (p : A → Bool) where
       by false e h m = (there (h m).0, (h m).1)
 
 -- where none passes
-keep_none : {A : Type 0} (p : A → Bool) (xs : List A) → ((x : A) → x ∈ xs → p x ≡ false) → filter p xs ≡ []
+pub keep_none : {A : Type 0} (p : A → Bool) (xs : List A) → ((x : A) → x ∈ xs → p x ≡ false) → filter p xs ≡ []
 keep_none p [] h = refl
 keep_none p (x ∷ xs) h = rw (h x (here refl), keep_none p xs (λ y m. h y (there m)))
 

@@ -1,0 +1,2 @@
+-- A day without losses put into a month.
+use mathlib.Core.Path.{◌≡◌}
