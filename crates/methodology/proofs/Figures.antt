@@ -1,6 +1,7 @@
 -- Document 01, "Figures to hold it to": cases 1 to 10 as one table, and one theorem: each figure that the definitions give is the one due.
 -- By computation. Every case starts from accounts in a day's slices; 1, 2, 9 and 10 go through the calls of a period. Then, beyond document
--- 01, what its figures leave open: a whole month, exact charges, allowances and shortfalls, and words that no answer shows.
+-- 01, what its figures leave open: a whole month, exact charges, days without losses, allowances and shortfalls, and words that no answer
+-- shows.
 use mathlib.Core.Path.{◌≡◌, refl}
 use mathlib.Core.List.{List, [], ◌∷◌, ◌++◌, map}
 use Prim.Native.Nat.{ℕ, suc, ◌+◌, ◌-◌, ◌*◌, ◌<◌, min}
@@ -12,8 +13,8 @@ use Rattle.numbers.specs.Fractions.{Fraction, ◌over◌, Proper, ◌≼◌, ◌
 use Rattle.methodology.specs.declared.Opening.{Opening}
 use Rattle.methodology.specs.Account.{DayInput, members, accounts, nobody}
 use Rattle.methodology.specs.Member.{member_under, member_own}
-use Rattle.methodology.specs.Day.{own_max_eul}
-use Rattle.methodology.specs.Contribution.{KeptDay, charge, exact_charge, allowance, shortfall}
+use Rattle.methodology.specs.Day.{own_max_eul, five}
+use Rattle.methodology.specs.Contribution.{KeptDay, counted, sum_of_shares, raw, charge, exact_charge, allowance, shortfall}
 use Rattle.methodology.specs.Register.{Register, start, opening, day, closing, step, returned, written, buffer}
 use Rattle.methodology.proofs.Samples.{computed, H, R, A, U, Line, acct, minus, losing, houses, clients, day_of, opening_of}
 
@@ -181,6 +182,32 @@ stressed =
       accounts = accounts 1 (day_of 1 (acct 1 0 H (pos 10) 0 0 (pos 4 ∷ []) ∷ acct 2 0 H (pos 5) 0 0 (pos 3 ∷ []) ∷ []));
     }
 
+-- the three days with days without losses before, between and after them; and such days alone
+abbrev with_days_without_losses : List (List ℤ)
+with_days_without_losses =
+    (pos 0 ∷ pos 0 ∷ [])
+    ∷ (pos 400000000 ∷ pos 200000000 ∷ [])
+    ∷ (pos 0 ∷ minus 7 ∷ [])
+    ∷ (pos 100000000 ∷ pos 300000000 ∷ [])
+    ∷ (minus 5 ∷ minus 5 ∷ [])
+    ∷ (minus 1 ∷ pos 0 ∷ [])
+    ∷ (pos 70000000 ∷ pos 30000000 ∷ [])
+    ∷ (minus 400000000 ∷ pos 0 ∷ [])
+    ∷ []
+
+abbrev only_without_losses : List (List ℤ)
+only_without_losses = (pos 0 ∷ pos 0 ∷ []) ∷ (minus 3 ∷ pos 0 ∷ []) ∷ []
+
+-- these days as the register keeps them, the last first
+abbrev kept : List (List ℤ) → List KeptDay
+kept ess = (days_from 1 (step start (opening (groups (0 ∷ 0 ∷ [])))) ess).days
+
+-- of two members the sums of shares and the raw charges over days
+abbrev sums_and_charges : List KeptDay → List ℕ
+sums_and_charges days =
+    let o = groups (0 ∷ 0 ∷ []) in
+    map (sum_of_shares o days) (1 ∷ 2 ∷ []) ++ map (raw o days) (1 ∷ 2 ∷ [])
+
 pub exact_cases : List Case
 exact_cases =
     -- 9: the exact charge is 73,333,333 and a third
@@ -200,6 +227,23 @@ exact_cases =
     ∷ parts (exact [] (groups (0 ∷ 0 ∷ [])) 1) is (0 ∷ 1 ∷ [])
     ∷ parts (exact [] (opening_of 3 2 (4 ∷ 4 ∷ 0 ∷ [])) 3) is (0 ∷ 1 ∷ [])
     ∷ (charge 0 0 0 ∷ charge 400000000 1000000000000 0 ∷ charge 400000000 1000000000000 1 ∷ []) is (0 ∷ 0 ∷ 440000000 ∷ [])
+    -- A day without losses: a member's five numbers are 0, whatever loss and Max EUL would be, and its own Max EUL is 0. A dollar is a loss.
+    ∷ (five 0 0 0 ++ (five 0 400000000 0 ++ five 5 9 0)) is replicate 15 0
+    ∷ five 1 400000000 1 is (1 ∷ 1000000000000 ∷ 40000000000 ∷ 44000000000 ∷ 88000000000 ∷ [])
+    ∷ five 0 400000000 1 is replicate 5 0
+    ∷ max_of (groups (0 ∷ 0 ∷ [])) (houses 1 (pos 0 ∷ minus 7 ∷ [])) is (0 ∷ [])
+    ∷ max_of (groups (1 ∷ 1 ∷ [])) (houses 1 (minus 1 ∷ minus 7 ∷ [])) is (0 ∷ [])
+    -- It does not count (document 02, Change 4): of these eight days the second, the fourth and the seventh do, the last first. The sums of
+    -- shares, the raw and the exact charges are those of the three alone.
+    ∷ map (λ d. d.number) (counted (groups (0 ∷ 0 ∷ [])) (kept with_days_without_losses)) is (7 ∷ 4 ∷ 2 ∷ [])
+    ∷ sums_and_charges (kept worst_first) is (1616666666667 ∷ 1383333333334 ∷ 237111112 ∷ 202888889 ∷ [])
+    ∷ sums_and_charges (kept with_days_without_losses) is (1616666666667 ∷ 1383333333334 ∷ 237111112 ∷ 202888889 ∷ [])
+    ∷ exact with_days_without_losses (groups (0 ∷ 0 ∷ [])) 1 is_fraction 2134000000 over 9
+    ∷ exact with_days_without_losses (groups (0 ∷ 0 ∷ [])) 2 is_fraction 1826000000 over 9
+    -- where no day counts, all is as without a day
+    ∷ (length (counted (groups (0 ∷ 0 ∷ [])) (kept only_without_losses)) ∷ sums_and_charges (kept only_without_losses)) is replicate 5 0
+    ∷ parts (exact only_without_losses (groups (0 ∷ 0 ∷ [])) 1) is (0 ∷ 1 ∷ [])
+    ∷ parts (exact only_without_losses (groups (0 ∷ 0 ∷ [])) 2) is (0 ∷ 1 ∷ [])
     -- the allowance is 1 dollar where M is 0, 1 and 1.1 dollars where it is 10^12, and in the printed month 1.000429 dollars
     ∷ allowance 0 is_fraction 1 over 1
     ∷ allowance 1000000000000 is_fraction 21 over 10

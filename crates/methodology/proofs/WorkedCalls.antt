@@ -1,7 +1,8 @@
 -- Calls worked by the register: document 01's printed month; M on each of three days; a month whose own Max EULs fall and rise; months
--- that have not begun; a period whose calls meet every condition of the refusal table from both sides, and every pair of its order of
--- precedence. One table, one theorem: each answer, and each number left in a buffer, is the one due. By computation. The figures were worked
--- out from the documents by a recalculation of its own. The largest periods are in WorkedLimits.antt.
+-- that have not begun; months with days without losses, and of such days alone; a period whose calls meet every condition of the refusal
+-- table from both sides, and every pair of its order of precedence. One table, one theorem: each answer, and each number left in a buffer,
+-- is the one due. By computation. The figures were worked out from the documents by a recalculation of its own. The largest periods are in
+-- WorkedLimits.antt.
 use mathlib.Core.Path.{◌≡◌, refl}
 use mathlib.Core.List.{List, [], ◌∷◌, ◌++◌, map}
 use Prim.Native.Nat.{ℕ, ◌*◌}
@@ -69,14 +70,17 @@ least_after number =
     ∷ 30000000 ∷ 300000000000 ∷ 12000000000 ∷ 13200000000 ∷ 26400000000 ∷ [])
 
 -- the period of these days, in any order: D, M and both charges are the same
-abbrev three_days : (first second third : ℕ → Exchange) → List Exchange
-three_days first second third =
-    brings 2 1 (0 ∷ 0 ∷ []) gets accepted []
-    ∷ first 1 ∷ second 2 ∷ third 3
-    ∷ closing 6
+abbrev closes_alike : (days : List Exchange) → List Exchange
+closes_alike days =
+    (brings 2 1 (0 ∷ 0 ∷ []) gets accepted [])
+    ∷ days
+    ++ ((closing 6
     gets accepted (3 ∷ 400000000 ∷ 440000001 ∷ [])
-    writing (237111112 ∷ 237111112 ∷ 474222224 ∷ 202888889 ∷ 202888889 ∷ 405777778 ∷ [])
-    ∷ []
+    writing (237111112 ∷ 237111112 ∷ 474222224 ∷ 202888889 ∷ 202888889 ∷ 405777778 ∷ []))
+    ∷ [])
+
+abbrev three_days : (first second third : ℕ → Exchange) → List Exchange
+three_days first second third = closes_alike (first 1 ∷ second 2 ∷ third 3 ∷ [])
 
 -- ---- the highest so far (document 02, Change 3)
 
@@ -171,6 +175,113 @@ not_begun_again =
     ∷ closing 6
     gets accepted (1 ∷ 70000000 ∷ 103900000 ∷ [])
     writing (53900000 ∷ 53900000 ∷ 107800000 ∷ 23100000 ∷ 50000000 ∷ 100000000 ∷ [])
+    ∷ []
+
+-- ---- days without losses (document 02, Change 4)
+
+-- a day on which two members lose nothing: it reports the highest so far, and writes 0
+abbrev without_losses : (number so_far : ℕ) → Exchange
+without_losses number so_far = losses number (0 ∷ 0 ∷ []) gets accepted (0 ∷ so_far ∷ []) writing replicate 10 0
+
+-- The three days above with such days before, between and after them: what they say and write themselves, D, M and both charges stay.
+abbrev beside_three_days : List (List Exchange)
+beside_three_days =
+    closes_alike (without_losses 1 0 ∷ worst 2 ∷ middling_after 3 ∷ least_after 4 ∷ [])
+    ∷ closes_alike (worst 1 ∷ without_losses 2 400000000 ∷ middling_after 3 ∷ least_after 4 ∷ [])
+    ∷ closes_alike (middling 1 ∷ worst 2 ∷ without_losses 30 400000000 ∷ least_after 31 ∷ [])
+    ∷ closes_alike (middling 5 ∷ without_losses 6 300000000 ∷ worst 7 ∷ least_after 8 ∷ [])
+    ∷ closes_alike (least 1 ∷ middling 2 ∷ worst 3 ∷ without_losses 31 400000000 ∷ [])
+    ∷ closes_alike
+    (without_losses 1 0
+    ∷ without_losses 2 0
+    ∷ least 4
+    ∷ without_losses 5 70000000
+    ∷ middling 10
+    ∷ without_losses 11 300000000
+    ∷ without_losses 12 300000000
+    ∷ worst 20
+    ∷ without_losses 30 400000000
+    ∷ without_losses 31 400000000
+    ∷ [])
+    ∷ []
+
+-- Its day number counts: after it the same one and a lower one are refused by 3, before 5 and 6, also where no day before it had losses and
+-- where the last that had some is lower still; a higher one is accepted.
+abbrev numbers_count : List Exchange
+numbers_count =
+    brings 2 1 (0 ∷ 0 ∷ []) gets accepted []
+    ∷ without_losses 5 0
+    ∷ losses 5 (10 ∷ 10 ∷ []) gets refused 3
+    ∷ losses 4 (10 ∷ 10 ∷ []) gets refused 3
+    ∷ losses 5 (0 ∷ 0 ∷ []) gets refused 3
+    ∷ losses 1 (0 ∷ 0 ∷ []) gets refused 3
+    ∷ day (day_of 5 (houses 1 (pos 10 ∷ []))) 10 gets refused 3
+    ∷ day (day_of 4 (houses 1 (pos 0 ∷ []))) 10 gets refused 3
+    ∷ losses 5 (1000000000001 ∷ 0 ∷ []) gets refused 3
+    ∷ losses 4 (0 ∷ 1000000000001 ∷ []) gets refused 3
+    ∷ losses 6 (10 ∷ 30 ∷ [])
+    gets accepted (40 ∷ 30 ∷ [])
+    writing (10 ∷ 250000000000 ∷ 750 ∷ 825 ∷ 1650 ∷ 30 ∷ 750000000000 ∷ 2250 ∷ 2475 ∷ 4950 ∷ [])
+    ∷ without_losses 9 30
+    ∷ losses 7 (10 ∷ 30 ∷ []) gets refused 3
+    ∷ losses 9 (10 ∷ 30 ∷ []) gets refused 3
+    ∷ losses 8 (0 ∷ 0 ∷ []) gets refused 3
+    ∷ losses 9 (0 ∷ 0 ∷ []) gets refused 3
+    ∷ losses 10 (30 ∷ 10 ∷ [])
+    gets accepted (40 ∷ 30 ∷ [])
+    writing (30 ∷ 750000000000 ∷ 2250 ∷ 2475 ∷ 4950 ∷ 10 ∷ 250000000000 ∷ 750 ∷ 825 ∷ 1650 ∷ [])
+    ∷ without_losses 31 30
+    ∷ losses 31 (10 ∷ 10 ∷ []) gets refused 3
+    ∷ losses 30 (10 ∷ 10 ∷ []) gets refused 3
+    ∷ closing 6 gets accepted (2 ∷ 30 ∷ 100000000 ∷ []) writing (17 ∷ 50000000 ∷ 100000000 ∷ 17 ∷ 50000000 ∷ 100000000 ∷ [])
+    ∷ []
+
+-- Where all days are like this, one or several, of two members and of one, the closing answers as that of a month that has not begun, and
+-- closes. An opening begins anew: its days may be 1 again, and report nothing of a month before.
+abbrev only_without_losses : List Exchange
+only_without_losses =
+    brings 2 1 (0 ∷ 0 ∷ []) gets accepted []
+    ∷ without_losses 1 0
+    ∷ none_of_two
+    ∷ losses 2 (0 ∷ 0 ∷ []) gets refused 2
+    ∷ closing 6 gets refused 2
+    ∷ brings 2 1 (0 ∷ 0 ∷ []) gets accepted []
+    ∷ without_losses 1 0
+    ∷ without_losses 2 0
+    ∷ without_losses 31 0
+    ∷ closing 5 gets refused 4
+    ∷ none_of_two
+    ∷ brings 1 1 (32 ∷ []) gets accepted []
+    ∷ losses 1 (0 ∷ []) gets accepted (0 ∷ 0 ∷ []) writing replicate 5 0
+    ∷ none_of_one
+    ∷ brings 1 1 (0 ∷ []) gets accepted []
+    ∷ losses 30 (0 ∷ []) gets accepted (0 ∷ 0 ∷ []) writing replicate 5 0
+    ∷ losses 31 (0 ∷ []) gets accepted (0 ∷ 0 ∷ []) writing replicate 5 0
+    ∷ none_of_one
+    ∷ brings 2 1 (0 ∷ 0 ∷ []) gets accepted []
+    ∷ worst 1
+    ∷ without_losses 2 400000000
+    ∷ closing 6
+    gets accepted (1 ∷ 400000000 ∷ 440000001 ∷ [])
+    writing (293333334 ∷ 293333334 ∷ 586666668 ∷ 146666667 ∷ 146666667 ∷ 293333334 ∷ [])
+    ∷ brings 2 1 (0 ∷ 0 ∷ []) gets accepted []
+    ∷ without_losses 1 0
+    ∷ none_of_two
+    ∷ []
+
+-- a day on which a single dollar is lost counts, before such days and between them: were they counted too, it would be charged one dollar
+abbrev one_dollar : List Exchange
+one_dollar =
+    brings 2 1 (0 ∷ 0 ∷ []) gets accepted []
+    ∷ losses 1 (1 ∷ 0 ∷ []) gets accepted (1 ∷ 1 ∷ []) writing (1 ∷ 1000000000000 ∷ 100 ∷ 110 ∷ 220 ∷ replicate 5 0)
+    ∷ without_losses 2 1
+    ∷ closing 6 gets accepted (1 ∷ 1 ∷ 100000000 ∷ []) writing (2 ∷ 50000000 ∷ 100000000 ∷ 0 ∷ 50000000 ∷ 100000000 ∷ [])
+    ∷ brings 2 1 (0 ∷ 0 ∷ []) gets accepted []
+    ∷ without_losses 1 0
+    ∷ losses 2 (0 ∷ 1 ∷ []) gets accepted (1 ∷ 1 ∷ []) writing (0 ∷ 0 ∷ 0 ∷ 0 ∷ 0 ∷ 1 ∷ 1000000000000 ∷ 100 ∷ 110 ∷ 220 ∷ [])
+    ∷ without_losses 3 1
+    ∷ without_losses 4 1
+    ∷ closing 6 gets accepted (1 ∷ 1 ∷ 100000000 ∷ []) writing (0 ∷ 50000000 ∷ 100000000 ∷ 2 ∷ 50000000 ∷ 100000000 ∷ [])
     ∷ []
 
 -- five days; M is the first one's, or the last one's where they come the other way round
@@ -307,11 +418,14 @@ house member = by member 0 H
 abbrev on : (number : ℕ) → List Line → Call
 on number lines = day (day_of number lines) 15
 
--- a day of three good accounts, its slices changed
-abbrev lending : (number : ℕ) → (List ℤ → List ℤ) → (margins extras : List ℕ → List ℕ) → Call
-lending number f g h =
-    let d = day_of number (house 1 ∷ house 2 ∷ house 3 ∷ []) in
+-- a day of these accounts, its slices changed; and one of three good accounts
+abbrev lending_of : (number : ℕ) → List Line → (List ℤ → List ℤ) → (margins extras : List ℕ → List ℕ) → Call
+lending_of number lines f g h =
+    let d = day_of number lines in
     day (record { terms = d.terms; headings = d.headings; npvs = f d.npvs; margins = g d.margins; extras = h d.extras }) 15
+
+abbrev lending : (number : ℕ) → (List ℤ → List ℤ) → (margins extras : List ℕ → List ℕ) → Call
+lending number f g h = lending_of number (house 1 ∷ house 2 ∷ house 3 ∷ []) f g h
 
 -- a good day with an output of this length
 abbrev lent_room : (number room : ℕ) → Call
@@ -326,9 +440,25 @@ heading lines =
 abbrev as_it_is : {X : Type 0} → List X → List X
 as_it_is l = l
 
--- a day on which T is 0
+-- days without losses: every account is covered; or two clients are not, but their members by their house accounts, one of them just so
 abbrev nothing_lost : List Line
 nothing_lost = with_amounts 1 (pos 1) 1 0 (pos 0) ∷ with_amounts 2 (pos 2) 5 3 (pos 0) ∷ with_amounts 3 (pos 0) 0 0 (pos 1) ∷ []
+
+abbrev covered : List Line
+covered =
+    acct 1 0 H (pos 0) 40 0 (pos 0 ∷ pos 0 ∷ [])
+    ∷ acct 1 1 R (pos 60) 30 0 (pos 0 ∷ pos 60 ∷ [])
+    ∷ acct 2 0 H (pos 7) 9 0 (pos 0 ∷ pos 0 ∷ [])
+    ∷ acct 2 1 U (pos 2) 1 0 (pos 0 ∷ pos 2 ∷ [])
+    ∷ acct 3 0 H (pos 5) 6 1 (pos 5 ∷ pos 0 ∷ [])
+    ∷ []
+
+-- an account that loses nothing, by its heading; and a member's house account of this kind
+abbrev flat_by : (member number kind : ℕ) → Line
+flat_by member number kind = acct member number kind (pos 0) 0 0 (pos 0 ∷ pos 0 ∷ [])
+
+abbrev flat : (member : ℕ) → Line
+flat member = flat_by member 0 H
 
 abbrev while_fresh : List Exchange
 while_fresh =
@@ -545,6 +675,80 @@ hedged_alone =
     writing (0 ∷ 50000000 ∷ 100000000 ∷ 0 ∷ 50000000 ∷ 100000000 ∷ 0 ∷ 50000000 ∷ 100000000 ∷ [])
     ∷ []
 
+-- days without losses beside that day, which counts, and beside one of Max EUL 136: D is 1, and then 2
+abbrev hedged_beside : List Exchange
+hedged_beside =
+    brings 3 2 (4 ∷ 4 ∷ 0 ∷ []) gets accepted []
+    ∷ on 1 nothing_lost gets accepted (0 ∷ 0 ∷ []) writing replicate 15 0
+    ∷ on 6 hedged gets accepted (10 ∷ 0 ∷ []) writing (10 ∷ 1000000000000 ∷ 0 ∷ 0 ∷ 0 ∷ replicate 10 0)
+    ∷ on 7 covered gets accepted (0 ∷ 0 ∷ []) writing replicate 15 0
+    ∷ closing 9
+    gets accepted (1 ∷ 0 ∷ 150000000 ∷ [])
+    writing (0 ∷ 50000000 ∷ 100000000 ∷ 0 ∷ 50000000 ∷ 100000000 ∷ 0 ∷ 50000000 ∷ 100000000 ∷ [])
+    ∷ brings 3 2 (4 ∷ 4 ∷ 0 ∷ []) gets accepted []
+    ∷ on 1 covered gets accepted (0 ∷ 0 ∷ []) writing replicate 15 0
+    ∷ on 5 mixed
+    gets accepted (202 ∷ 136 ∷ [])
+    writing (130 ∷ 643564356436 ∷ 8752 ∷ 9628 ∷ 19255 ∷ 72 ∷ 356435643565 ∷ 4848 ∷ 5332 ∷ 10665 ∷ 0 ∷ 0 ∷ 0 ∷ 0 ∷ 0 ∷ [])
+    ∷ on 6 nothing_lost gets accepted (0 ∷ 136 ∷ []) writing replicate 15 0
+    ∷ on 7 hedged gets accepted (10 ∷ 136 ∷ []) writing (10 ∷ 1000000000000 ∷ 13600 ∷ 14960 ∷ 29920 ∷ replicate 10 0)
+    ∷ on 31 covered gets accepted (0 ∷ 136 ∷ []) writing replicate 15 0
+    ∷ closing 9
+    gets accepted (2 ∷ 136 ∷ 150000000 ∷ [])
+    writing (123 ∷ 50000000 ∷ 100000000 ∷ 27 ∷ 50000000 ∷ 100000000 ∷ 0 ∷ 50000000 ∷ 100000000 ∷ [])
+    ∷ []
+
+-- On a day without losses every row is met as on any other, in the same order, and a refused one leaves no number behind.
+abbrev refused_without_losses : List Exchange
+refused_without_losses =
+    on 6 nothing_lost gets refused 2
+    ∷ brings 3 2 (4 ∷ 4 ∷ 0 ∷ []) gets accepted []
+    -- row 4, and 4 before 3 and 5
+    ∷ on 6 (replicate 257 (flat 1)) gets refused 4
+    ∷ day (day_of 6 nothing_lost) 0 gets refused 4
+    ∷ day (day_of 6 nothing_lost) 14 gets refused 4
+    ∷ day (day_of 6 nothing_lost) 16 gets refused 4
+    ∷ day (day_of 0 nothing_lost) 14 gets refused 4
+    ∷ day (day_of 6 (flat 1 ∷ flat 3 ∷ [])) 14 gets refused 4
+    ∷ lending_of 6 nothing_lost (drop 1) as_it_is as_it_is gets refused 4
+    ∷ lending_of 6 nothing_lost as_it_is (drop 1) as_it_is gets refused 4
+    ∷ lending_of 6 nothing_lost as_it_is as_it_is (drop 1) gets refused 4
+    ∷ lending_of 6 nothing_lost as_it_is as_it_is (λ l. 0 ∷ l) gets refused 4
+    ∷ lending_of 32 nothing_lost as_it_is as_it_is (drop 1) gets refused 4
+    -- row 3, and 3 before 5 and 6
+    ∷ on 0 nothing_lost gets refused 3
+    ∷ on 32 nothing_lost gets refused 3
+    ∷ on 32 (flat 1 ∷ flat 3 ∷ []) gets refused 3
+    ∷ on 0 (with_amounts 1 (pos 0) 1000000000001 0 (pos 0) ∷ flat 2 ∷ flat 3 ∷ []) gets refused 3
+    -- row 5, and 5 before 6
+    ∷ on 6 (flat 1 ∷ flat 3 ∷ []) gets refused_at 5 1
+    ∷ on 6 (flat 1 ∷ flat 2 ∷ []) gets refused_at 5 2
+    ∷ on 6 (flat 1 ∷ flat_by 1 1 4 ∷ flat 2 ∷ flat 3 ∷ []) gets refused_at 5 1
+    ∷ on 6 (flat 1 ∷ flat 2 ∷ flat_by 2 65536 R ∷ flat 3 ∷ []) gets refused_at 5 2
+    ∷ on 6 (flat 1 ∷ flat 2 ∷ flat 3 ∷ flat 4 ∷ []) gets refused_at 5 3
+    ∷ on 6 (with_amounts 1 (pos 0) 1000000000001 0 (pos 0) ∷ flat 3 ∷ []) gets refused_at 5 1
+    -- row 6
+    ∷ on 6 (flat 1 ∷ with_amounts 2 (pos 0) 1000000000001 0 (pos 0) ∷ flat 3 ∷ []) gets refused_at 6 1
+    ∷ on 6 (flat 1 ∷ flat 2 ∷ with_amounts 3 (minus 1000000000001) 0 0 (pos 0) ∷ []) gets refused_at 6 2
+    ∷ on 6 (flat 1 ∷ flat 2 ∷ with_amounts 3 (pos 0) 0 0 (pos 1000000000001) ∷ []) gets refused_at 6 2
+    ∷ on 6 (with_amounts 1 (pos 0) 9 0 (pos 0) ∷ acct 1 1 R (pos 0) 3 4 (pos 0 ∷ pos 0 ∷ []) ∷ flat 2 ∷ flat 3 ∷ []) gets refused_at 6 1
+    -- no number stays of these, and 6 is as good as any; then 3 again
+    ∷ on 1 (flat 1 ∷ flat 2 ∷ flat 3 ∷ []) gets accepted (0 ∷ 0 ∷ []) writing replicate 15 0
+    ∷ on 6 nothing_lost gets accepted (0 ∷ 0 ∷ []) writing replicate 15 0
+    ∷ on 6 covered gets refused 3
+    ∷ on 5 mixed gets refused 3
+    ∷ on 6 (flat 1 ∷ flat 3 ∷ []) gets refused 3
+    ∷ on 6 (flat 1 ∷ with_amounts 2 (pos 0) 1000000000001 0 (pos 0) ∷ flat 3 ∷ []) gets refused 3
+    ∷ lending_of 6 nothing_lost as_it_is (drop 1) as_it_is gets refused 4
+    ∷ brings 3 2 (4 ∷ 4 ∷ 0 ∷ []) gets refused 2
+    ∷ closing 8 gets refused 4
+    ∷ closing 9
+    gets accepted (0 ∷ 0 ∷ 150000000 ∷ [])
+    writing (0 ∷ 50000000 ∷ 100000000 ∷ 0 ∷ 50000000 ∷ 100000000 ∷ 0 ∷ 50000000 ∷ 100000000 ∷ [])
+    ∷ on 7 covered gets refused 2
+    ∷ day (day_of 7 covered) 14 gets refused 2
+    ∷ []
+
 -- ---- the limits
 
 -- n, k and groups at their last good values: each a period of its own
@@ -634,7 +838,12 @@ lists =
     ∷ (so_far ++ so_far_again)
     ∷ not_begun
     ∷ not_begun_again
+    ∷ numbers_count
+    ∷ only_without_losses
+    ∷ one_dollar
     ∷ hedged_alone
+    ∷ hedged_beside
+    ∷ refused_without_losses
     ∷ (while_fresh ++ (while_open ++ while_closed))
     ∷ five_days first_of_five
     ∷ five_days last_of_five
@@ -642,15 +851,16 @@ lists =
     ∷ every_kind
     ∷ two_groups
     ∷ last_of_four
-    ∷ halves
-    ++ (at_minimum ++ opened_at_limits)
+    ∷ beside_three_days
+    ++ (halves ++ (at_minimum ++ opened_at_limits))
 
 pub worked_calls : map (played start) lists ≡ lists
 unfolding lists played computed
 worked_calls = refl
 
--- What the register holds at the start and after an opening, a day and a closing, with a day and without. No answer tells fresh from closed,
--- or has to do with what is held before the first opening; document 01 says it all the same.
+-- What the register holds at the start and after an opening, a day and a closing, with a day and without; a day without losses is kept
+-- with its number. No answer tells fresh from closed, or has to do with what is held before the first opening; document 01 says it all the
+-- same.
 abbrev held_two : Opening
 held_two = opening_of 2 1 (0 ∷ 0 ∷ [])
 
@@ -660,11 +870,17 @@ after_opening = step start (opening held_two)
 abbrev after_day : Register
 after_day = step after_opening (losses 5 (400000000 ∷ 200000000 ∷ []))
 
+abbrev after_without_losses : Register
+after_without_losses = step after_day (losses 9 (0 ∷ 0 ∷ []))
+
 pub registers :
     (start ≡ record { status = Fresh; held = opening_of 0 0 []; days = [] })
     × (after_opening ≡ record { status = Open; held = held_two; days = [] })
     × (map (λ d. d.number) after_day.days ≡ 5 ∷ [])
+    × (map (λ d. d.number) after_without_losses.days ≡ 9 ∷ 5 ∷ [])
+    × (map (λ d. d.number) (step after_opening (losses 9 (0 ∷ 0 ∷ []))).days ≡ 9 ∷ [])
     × (step after_day (closing 6) ≡ record { status = Closed; held = held_two; days = after_day.days })
+    × (step after_without_losses (closing 6) ≡ record { status = Closed; held = held_two; days = after_without_losses.days })
     × (step after_opening (closing 6) ≡ record { status = Closed; held = held_two; days = [] })
 unfolding computed
-registers = (refl, refl, refl, refl, refl)
+registers = (refl, refl, refl, refl, refl, refl, refl, refl)

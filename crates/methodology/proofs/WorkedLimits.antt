@@ -9,10 +9,11 @@ use Rattle.std.specs.List.{range_with_len}
 use Rattle.methodology.specs.Register.{Call, day, closing, start, accepted, refused, refused_at}
 use Rattle.methodology.proofs.Samples.{computed, H, U, Line, acct, minus, losing, day_of, brings, Exchange, ◌gets◌, ◌gets◌writing◌, played}
 
--- Member 32, whose Affiliate is member 31, on day 31; the others lose 1.
+-- Member 32, whose Affiliate is member 31, on day 31; the others lose 1. The day before it nobody loses.
 abbrev member_32 : List Exchange
 member_32 =
     brings 32 1 (replicate 30 0 ++ (32 ∷ 32 ∷ [])) gets accepted []
+    ∷ day (day_of 30 (map (λ m. losing m 0 H (pos 0)) (range_with_len 1 32))) 160 gets accepted (0 ∷ 0 ∷ []) writing replicate 160 0
     ∷ day (day_of 31 (map (λ m. losing m 0 H (pos 1)) (range_with_len 1 31) ++ (losing 32 0 H (pos 9) ∷ []))) 160
     gets accepted (40 ∷ 10 ∷ [])
     writing (flat_map (λ m. 1 ∷ 25000000000 ∷ 25 ∷ 28 ∷ 55 ∷ []) (range_with_len 1 31) ++ (9 ∷ 225000000000 ∷ 225 ∷ 248 ∷ 495 ∷ []))
@@ -80,7 +81,8 @@ accounts_256 =
     ∷ with_last (losing 1 65535 U (pos 1)) gets accepted (384 ∷ 384 ∷ []) writing (384 ∷ 1000000000000 ∷ 38400 ∷ 42240 ∷ 84480 ∷ [])
     ∷ []
 
--- 256 accounts that fall from limit to limit: no Max EUL is higher. A day on which a dollar is lost reports it, and its cents go by it.
+-- 256 accounts that fall from limit to limit: no Max EUL is higher. A day on which a dollar is lost reports it, and its cents go by it; a
+-- day without losses reports it too.
 abbrev falling : (number kind : ℕ) → Line
 falling number kind = acct 1 number kind (pos 1000000000000) 0 0 (minus 1000000000000 ∷ [])
 
@@ -93,14 +95,44 @@ highest_of_all =
     ∷ day (day_of 2 (losing 1 0 H (pos 1) ∷ [])) 5
     gets accepted (1 ∷ 767000000000000 ∷ [])
     writing (1 ∷ 1000000000000 ∷ 76700000000000000 ∷ 84370000000000000 ∷ 168740000000000000 ∷ [])
+    ∷ day (day_of 3 (losing 1 0 H (pos 0) ∷ [])) 5 gets accepted (0 ∷ 767000000000000 ∷ []) writing replicate 5 0
     ∷ closing 3
     gets accepted (2 ∷ 767000000000000 ∷ 843700000000000 ∷ [])
     writing (843700000000000 ∷ 843700000000000 ∷ 1687400000000000 ∷ [])
     ∷ []
 
+-- 31 days without losses; and the same but for one day, the 17th
+abbrev nothing_on : (first count so_far : ℕ) → List Exchange
+nothing_on first count so_far =
+    map (λ i. day (day_of i (losing 1 0 H (pos 0) ∷ [])) 5 gets accepted (0 ∷ so_far ∷ []) writing replicate 5 0) (range_with_len first count)
+
+abbrev nothing_in_31_days : List Exchange
+nothing_in_31_days =
+    (brings 1 1 (0 ∷ []) gets accepted [])
+    ∷ nothing_on 1 31 0
+    ++ (closing 3 gets accepted (0 ∷ 0 ∷ 50000000 ∷ []) writing (0 ∷ 50000000 ∷ 100000000 ∷ []) ∷ [])
+
+abbrev one_of_31_days : List Exchange
+one_of_31_days =
+    (brings 1 1 (0 ∷ []) gets accepted [])
+    ∷ nothing_on 1 16 0
+    ++ ((day (day_of 17 (losing 1 0 H (pos 10) ∷ [])) 5 gets accepted (10 ∷ 10 ∷ []) writing (10 ∷ 1000000000000 ∷ 1000 ∷ 1100 ∷ 2200 ∷ []))
+    ∷ nothing_on 18 14 10
+    ++ (closing 3 gets accepted (1 ∷ 10 ∷ 50000000 ∷ []) writing (11 ∷ 50000000 ∷ 100000000 ∷ []) ∷ []))
+
 pub limit_lists : List (List Exchange)
 limit_lists =
-    member_32 ∷ not_begun ∷ under_one under_16 ∷ under_one under_1 ∷ one_by_one ∷ stress_outside ∷ accounts_256 ∷ highest_of_all ∷ []
+    member_32
+    ∷ not_begun
+    ∷ under_one under_16
+    ∷ under_one under_1
+    ∷ one_by_one
+    ∷ stress_outside
+    ∷ accounts_256
+    ∷ highest_of_all
+    ∷ nothing_in_31_days
+    ∷ one_of_31_days
+    ∷ []
 
 pub worked_limits : map (played start) limit_lists ≡ limit_lists
 unfolding limit_lists played computed
