@@ -311,7 +311,7 @@ WORKED_ONLY = [
     ("5 on a second day", after_a_day(day(2, 2), house(1, 10), house(1, 10))),
     ("5 past a second day", month(1, [0, 0], (1, house(1, 10), house(2, 20)), (2, house(1, 10)))),
     ("6 on a second day", after_a_day(day(2, 2), house(1, 10), acct(1, 1, "U", 10, 1, 2, 0))),
-    ("7 on a second day", after_a_day(day(2, 1), house(1, 0))),
+    ("a day without losses after one that counts", after_a_day(day(2, 1), house(1, 0))),
     ("9 on a second day", after_a_day(day(2, 2), house(1, 10), acct(1, "x", "U", 10, 0, 0, 0))),
     ("days that leave numbers out", month(1, [0], (1, house(1, 10)), (9, house(1, 30)), (31, house(1, 20)))),
     ("groups of three and of two", month(3, [17, 1, 17, 0, 1, 17, 0], (1, *second(10, 8, 10, 25, 8, 10, 1)),
@@ -383,8 +383,8 @@ VECTORS_ONLY = [
     ("part b by the two largest, with a house EUL above and below 0",
      month(1, [0], (1, falls(1, 1), *clients("RRRAU", 0, 3, 1, 1, 1)), (2, falls(1, 2, margin=6), *clients("RRRRAU", 3, 0, 3, 0, 1, 1)),
            (3, falls(1, 2, margin=4), *clients("RRU", 3, 2, 0)))),
-    ("7 for the first of three days without a loss", month(1, [0], (1, falls(1, 0, margin=1)), (2, falls(1, 0, margin=10**12)),
-                                                           (3, falls(1, 0)))),
+    ("three days without losses, with a margin, with one at its limit and without", month(
+        1, [0], (1, falls(1, 0, margin=1)), (2, falls(1, 0, margin=10**12)), (3, falls(1, 0)))),
     ("6 for a stress outside its limit", month(2, [0], (1, falls(1, 2500000000000, 0, margin=10**12),
                                                         acct(1, 1, "U", 0, 250000000000, 0, 0, -200000000000)))),
     ("all members in one group, seven days at the limit of an amount",
@@ -531,8 +531,83 @@ SO_FAR = [
     ("a day of own Max EUL 0 after one near three times the limit; 9 after them", stored("so-far-43")),
 ]
 
+# Days without losses (document 02, Change 4), among days that count and alone.
+WITHOUT_LOSSES = [
+    ("days without losses before, between and after two that count", month(
+        1, [0, 0], (2, falls(1, 0), falls(2, 0)), (3, falls(1, 400000000), falls(2, 200000000)), (4, falls(1, 0), falls(2, 0)),
+        (5, falls(1, 0), falls(2, 0)), (6, falls(1, 100000000), falls(2, 300000000)), (31, falls(1, 0), falls(2, 0)))),
+    ("only days without losses", month(
+        1, [0, 0], (1, falls(1, 0), falls(2, 0)), (2, falls(1, 0), falls(2, 0)), (31, falls(1, 0), falls(2, 0)))),
+    ("two days without losses of one number: 3", month(1, [0], (5, house(1, 0)), (5, house(1, 0)))),
+    ("the number of a day without losses again, and a bad account: 3", month(
+        1, [0], (1, house(1, 10)), (5, house(1, 0)), (5, house(2, 10)))),
+    ("3 for a number below that of a day without losses, and above that of the day that counts", month(
+        1, [0], (1, house(1, 10)), (5, house(1, 0)), (3, house(1, 10)))),
+    ("margins that just cover; then by a dollar one does not", month(
+        2, [0, 7], (1, falls(1, 9, 4, margin=9), falls(2, 0, 10**12, margin=10**12)),
+        (2, falls(1, 9, 4, margin=9), falls(2, 0, 10**12, margin=10**12 - 1)), (3, falls(1, 9, 4, margin=9), falls(2, 0, 8, margin=8)))),
+    ("an extra that is not counted: without it there would be no loss", month(
+        1, [0], (1, acct(1, 0, "H", 0, 9, 0, -9)), (2, acct(1, 0, "H", 0, 9, 1, -9)))),
+    ("a day without losses on which clients lose what the house account covers, to the dollar", month(
+        1, [0], (1, house(1, 10)), (2, falls(1, 2, margin=7), *clients("RRU", 3, 1, 1)), (3, falls(1, 2, margin=6), *clients("RRU", 3, 1, 1)))),
+    ("a day without losses between one of T above 0 and Max EUL 0 and one with both above 0", month(
+        2, [0], (1, *hedged(7)), (2, *hedged(0)), (3, *hedged(5), acct(1, 2, "U", 0, 0, 0, -1, 0)))),
+    ("6 on a day without losses", month(1, [0], (1, house(1, 10)), (2, falls(1, 0, margin=10**12 + 1)))),
+    ("5 on a day without losses", month(1, [0], (1, house(1, 0)), (2, house(1, 0), acct(1, 0, "R", 0, 0, 0, 0)))),
+    ("9 after a day without losses", month(1, [0], (1, house(1, 0))) + text(END)),
+]
+
+# Months drawn at random that have a day without losses; a line that names a day by its place alone speaks of it.
+QUIET = [
+    ("one member: two days without losses, clients covered to the dollar on the second, and one of 7", stored("quiet-00")),
+    ("two members: three days without losses, a margin that just covers on the first", stored("quiet-01")),
+    ("two days without losses, then one of 1,000,000,000 for each of two members", stored("quiet-02")),
+    ("two groups of one member each: the last of four days, one of them a dollar below the limit of an amount", stored("quiet-03")),
+    ("two members: three days without losses, margins at the limit of an amount", stored("quiet-04")),
+    ("one member with thirteen clients: a day without losses between days of thousands and of thousands of millions", stored("quiet-05")),
+    ("one member: three days without losses, clients covered to the dollar on the second", stored("quiet-06")),
+    ("three members: a day without losses between days of 6 dollars and of 1,000,000,000 each", stored("quiet-07")),
+    ("three members, two of one group: the third day; 5 on a fourth, where the last member is missing", stored("quiet-08")),
+    ("four members: three days without losses", stored("quiet-09")),
+    ("one member: the last of three days, its house account covers its clients with a dollar to spare", stored("quiet-10")),
+    ("one member: two days without losses, one by a margin at the limit of an amount, then one of 1,000,000,000", stored("quiet-11")),
+    ("a first day without losses; 5 on a second for kind 9", stored("quiet-12")),
+    ("three scenarios: a first day without losses, one of T 1 and own Max EUL 0, and two with both above 0", stored("quiet-13")),
+    ("one member: three days without losses, a margin at the limit of an amount on the first", stored("quiet-14")),
+    ("one member: two days without losses between one of a million millions and one of a million", stored("quiet-15")),
+    ("one member: the second of three days", stored("quiet-16")),
+    ("four members: the first and the last of three days, one member of four loses on the second", stored("quiet-17")),
+    ("two days without losses, each with a margin at the limit of an amount, then one of 1,000,000,000 each", stored("quiet-18")),
+    ("three members: a day of one dollar, then two without losses, two margins that just cover on the first of them", stored("quiet-19")),
+    ("a first day without losses; 5 on a second for a member above n", stored("quiet-20")),
+    ("three scenarios: the last of two days, covered with a dollar to spare", stored("quiet-21")),
+    ("four members: a day without losses after one on which three lose, and before one of 1,000,000,000 each", stored("quiet-22")),
+    ("three scenarios: a day without losses after one of one dollar; 5 on a fourth for a member above n", stored("quiet-23")),
+    ("two members of one group: the first of two days, whose second has losses of 1 and of thousands", stored("quiet-24")),
+    ("one member: a day without losses alone, both stresses above the base", stored("quiet-25")),
+    ("one member: the second of four days, before one of one dollar", stored("quiet-26")),
+    ("two members of one group, three scenarios: a day without losses, then one of one dollar", stored("quiet-27")),
+    ("two groups of one member each: a day without losses alone", stored("quiet-28")),
+    ("two groups of one member each: a day without losses, then one of one dollar", stored("quiet-29")),
+    ("one member: the first and the third of four days", stored("quiet-30")),
+    ("two members: the first of three days, then T above the Max EUL of its own, and day 31", stored("quiet-31")),
+    ("three scenarios: the last of four days, on day 31", stored("quiet-32")),
+    ("one member with thirteen clients, whose losses its house account covers: a day without losses alone, two scenarios", stored("quiet-33")),
+    ("the first and the third day; 9 on a fourth for a minus in place of a tab", stored("quiet-34")),
+    ("three scenarios: the last of two days, one account", stored("quiet-35")),
+    ("a first day without losses; 9 for an acct line where a day line is due", stored("quiet-36")),
+    ("four members of one group: a first day without losses; 9 on a third for a blank after a number", stored("quiet-37")),
+    ("a first day without losses, one account covered to the dollar; 9 on a third for a line cut short", stored("quiet-38")),
+    ("a day without losses after one of T 1 and own Max EUL 0; 5 on a third for a number that falls", stored("quiet-39")),
+    ("a day without losses after one of one dollar; 9 on a fourth for a stress too many", stored("quiet-40")),
+    ("three scenarios: a first day without losses; 9 on a second for a stress too many", stored("quiet-41")),
+    ("two groups of one member each: a first day without losses; 5 on a fourth for a number above 65,535", stored("quiet-42")),
+    ("a first day without losses; 9 on a second for a minus in a margin", stored("quiet-43")),
+    ("3 for a number below that of a day without losses", stored("quiet-44")),
+]
+
 # Of the months of VALID the longest is run by `vectors` alone, of those of TOTALS all but these: cents rounded both ways, a group, two days
-# of one T, a day of own Max EUL 0, equal days; of those of NOT_BEGUN the first two are worked out, of those of SO_FAR six short ones.
+# of one T, a day of own Max EUL 0, equal days; of those of NOT_BEGUN the first two are worked out, of those of SO_FAR and of QUIET six short ones each.
 WORKED = (BOTH + WORKED_ONLY + VALID[:5] + VALID[6:] + [TOTALS[i] for i in (1, 6, 12, 14, 15)] + NOT_BEGUN[:2]
-          + [SO_FAR[i] for i in (2, 8, 13, 18, 29, 43)])
-VECTORS = BOTH + VALID + VECTORS_ONLY + TOTALS + NOT_BEGUN + SO_FAR
+          + [SO_FAR[i] for i in (2, 8, 13, 18, 29, 43)] + WITHOUT_LOSSES + [QUIET[i] for i in (0, 6, 17, 19, 29, 44)])
+VECTORS = BOTH + VALID + VECTORS_ONLY + TOTALS + NOT_BEGUN + SO_FAR + WITHOUT_LOSSES + QUIET

@@ -366,7 +366,7 @@ texts =
     ∷ ("period\t2\t1\nmember\t1\t0\nmember\t2\t0\nday\t1\t2\nacct\t1\t0\tH\t10\t0\t0\t0\nacct\t2\t0\tH\t20\t0\t0\t0\nday\t2\t1\nacct\t1\t0\tH\t10\t0\t0\t0\nend\n" gives "day\t1\t30\t20\ndaily\t1\t10\t333333333334\t667\t733\t1467\ndaily\t2\t20\t666666666667\t1333\t1467\t2933\ntotal\t30\t1000000000001\t2000\t2200\t4400\nrefused\t5\t9\n")
     -- 6 on a second day
     ∷ ("period\t1\t1\nmember\t1\t0\nday\t1\t1\nacct\t1\t0\tH\t10\t0\t0\t0\nday\t2\t2\nacct\t1\t0\tH\t10\t0\t0\t0\nacct\t1\t1\tU\t10\t1\t2\t0\nend\n" gives "day\t1\t10\t10\ndaily\t1\t10\t1000000000000\t1000\t1100\t2200\ntotal\t10\t1000000000000\t1000\t1100\t2200\nrefused\t6\t7\n")
-    -- 7 on a second day
+    -- a day without losses after one that counts
     ∷ ("period\t1\t1\nmember\t1\t0\nday\t1\t1\nacct\t1\t0\tH\t10\t0\t0\t0\nday\t2\t1\nacct\t1\t0\tH\t0\t0\t0\t0\nend\n" gives "day\t1\t10\t10\ndaily\t1\t10\t1000000000000\t1000\t1100\t2200\ntotal\t10\t1000000000000\t1000\t1100\t2200\nday\t2\t0\t10\ndaily\t1\t0\t0\t0\t0\t0\ntotal\t0\t0\t0\t0\t0\nfund\t1\t10\t50000000\ncontribution\t1\t11\t50000000\t100000000\n")
     -- 9 on a second day
     ∷ ("period\t1\t1\nmember\t1\t0\nday\t1\t1\nacct\t1\t0\tH\t10\t0\t0\t0\nday\t2\t2\nacct\t1\t0\tH\t10\t0\t0\t0\nacct\t1\tx\tU\t10\t0\t0\t0\nend\n" gives "day\t1\t10\t10\ndaily\t1\t10\t1000000000000\t1000\t1100\t2200\ntotal\t10\t1000000000000\t1000\t1100\t2200\nrefused\t9\t7\n")
@@ -484,6 +484,42 @@ texts =
     ∷ ("period\t2\t3\nmember\t1\t0\nmember\t2\t0\nday\t17\t2\nacct\t1\t0\tH\t0\t999999999999\t0\t-999999999999\t999999999999\t-999999999999\nacct\t2\t0\tH\t-1\t999999999999\t507703335401\t-1000000000000\t0\t-1\nday\t23\t2\nacct\t1\t0\tH\t1\t0\t0\t0\t0\t0\nacct\t2\t0\tH\t239791355\t8409243506\t0\t-649746677\t8768209439\t293325546\nday\t28\t2\nacct\t1\t0\tH\t4\t32442624\t0\t385\t4\t-32442621\nacct\t2\t0\tH\t-57491423\t952\t0\t-57492376\t929655970474\t-13503539\nday\t29\t2\nacct\t1\t0\tH\t-739884033\t355876735003\t191587142011\t-356616619037\t-739884034\t-767335430\nacct\t2\t0\tH\t-537018870820\t462981129182\t462981129182\t-537018870829\t-1000000000000\t-985218780782\nend\n" gives "day\t17\t507703335401\t507703335401\ndaily\t1\t0\t0\t0\t0\t0\ndaily\t2\t507703335401\t1000000000000\t50770333540100\t55847366894110\t111694733788220\ntotal\t507703335401\t1000000000000\t50770333540100\t55847366894110\t111694733788220\nday\t23\t1\t507703335401\ndaily\t1\t1\t1000000000000\t50770333540100\t55847366894110\t111694733788220\ndaily\t2\t0\t0\t0\t0\t0\ntotal\t1\t1000000000000\t50770333540100\t55847366894110\t111694733788220\nday\t28\t2\t507703335401\ndaily\t1\t1\t500000000000\t25385166770050\t27923683447055\t55847366894110\ndaily\t2\t1\t500000000000\t25385166770050\t27923683447055\t55847366894110\ntotal\t2\t1000000000000\t50770333540100\t55847366894110\t111694733788220\nday\t29\t654568271192\t507703335401\ndaily\t1\t191587142012\t292692375180\t14860089512482\t16346098463730\t32692196927461\ndaily\t2\t462981129180\t707307624821\t35910244027618\t39501268430380\t79002536860759\ntotal\t654568271192\t1000000000001\t50770333540100\t55847366894110\t111694733788220\nfund\t4\t507703335401\t558473668942\ncontribution\t1\t250292872013\t250292872013\t500585744026\ncontribution\t2\t308180796929\t308180796929\t616361593858\n")
     -- a day of own Max EUL 0 after one near three times the limit; 9 after them
     ∷ ("period\t1\t3\nmember\t1\t0\nday\t3\t1\nacct\t1\t0\tH\t9\t0\t0\t11\t9\t8\nday\t20\t7\nacct\t1\t0\tH\t1000000000000\t0\t0\t0\t1000000000000\t1000000000000\nacct\t1\t1\tR\t0\t1000000000000\t0\t-1\t-1000000000000\t-1000000000000\nacct\t1\t2\tR\t-999999999999\t0\t0\t0\t-999999999999\t-999999999999\nacct\t1\t3\tR\t-999999999999\t0\t0\t0\t-999999999999\t-999999999999\nacct\t1\t5\tA\t1\t0\t0\t1\t1\t0\nacct\t1\t6\tU\t999999999999\t0\t0\t0\t1000000000000\t0\nacct\t1\t7\tR\t999999999999\t0\t0\t-1\t-1\t0\nday\t21\t14\nacct\t1\t0\tH\t6056331957\t23186815803\t0\t6091679386\t5613041106\t8243780570\nacct\t1\t1\tR\t5060931618\t870411613\t0\t5028413179\t13078939234\t4190520008\nacct\t1\t2\tR\t-85727861\t9020000958\t0\t-9105728819\t814020419\t582239818\nacct\t1\t4\tR\t77894368\t7458434125\t0\t-7380539758\t-681504230\t371091773\nacct\t1\t5\tR\t77894368\t7458434125\t0\t-7380539758\t-681504230\t371091773\nacct\t1\t6\tR\t-988423362\t9919698896\t9919698896\t4117571233\t-1080156461\t-10908122256\nacct\t1\t7\tR\t-139473300\t66283541\t36339365\t-205756841\t10079858\t102528229\nacct\t1\t8\tA\t-139473300\t66283541\t36339365\t-205756841\t10079858\t102528229\nacct\t1\t9\tR\t-139473300\t66283541\t36339365\t-205756841\t10079858\t102528229\nacct\t1\t10\tR\t-905967021\t75988750\t0\t-965670712\t6393415691\t-981955771\nacct\t1\t11\tR\t-804671284\t880246743\t0\t-1684918028\t-765843155\t-818904137\nacct\t1\t12\tR\t-804671284\t880246743\t0\t-1684918028\t-765843155\t-818904137\nacct\t1\t13\tA\t76048986\t9096262817\t9096262817\t-344501858\t-9020213832\t2510065161\nacct\t1\t14\tR\t-247380525\t8562302716\t3691223877\t-8809683240\t-325622458\t-313671116\nendxxxxxxxxxxxxxxxxxxxxxxxxxxxxxxxxxxxxxxxxxxxxxxxxxxxxxxxxxxxxxxxxxxxxxxxxxxxxxxxxxxxxxxxxxxxxxxxxxxxxxxxxxxxxxxxxxxxxxxxxxxxxxxxxxxxxxxxxxxxxxxxxxxxxxxxxxxxxxxxxxxxxxxxxxxxxxxxxxxxxxxxxxxxxxxxxxxxxxxxxxxxxxxxxxxxxxxxxxxxxxxxxxxxxxxxxxxxxxxxxxxxxxxxxxxxxxxxxxxxxxxxxxxxxxxxxxxxxxxxxxxxxxxxxxxxxxxxxxxxxxxxxxxxxxxxxxxxxxxxxxxxxxxxxxxxxxxxxxxxxxxxxxxxxxxxxxxxxxxxxxxxxxxxxxxxxxxxxxxxxxxxxxxxxxxxxxxxxxxxxxxxxxxxxxxxxxxxxxxxxxxxxxxxxxxxxxxxxxxxxxxxxxxxxxxxxxxxxxxxxxxxxxxxxxxxxxxxxxxxxxxxxxxxxxxxxxxxxxxxxxxxxxxxxxxxxxxxxxxxxxxxxxxxxxxxxxxxxxxxxxxxxxxxxxxxxxxxxxxxxxxxxxxxxxxxxxxxxxxxxxxxxxxxxxxxxxxxxxxxx\n" gives "day\t3\t1\t1\ndaily\t1\t1\t1000000000000\t100\t110\t220\ntotal\t1\t1000000000000\t100\t110\t220\nday\t20\t3000000000000\t2999999999999\ndaily\t1\t3000000000000\t1000000000000\t299999999999900\t329999999999890\t659999999999780\ntotal\t3000000000000\t1000000000000\t299999999999900\t329999999999890\t659999999999780\nday\t21\t1\t2999999999999\ndaily\t1\t1\t1000000000000\t299999999999900\t329999999999890\t659999999999780\ntotal\t1\t1000000000000\t299999999999900\t329999999999890\t659999999999780\nrefused\t9\t28\n")
+    -- days without losses before, between and after two that count
+    ∷ ("period\t2\t1\nmember\t1\t0\nmember\t2\t0\nday\t2\t2\nacct\t1\t0\tH\t0\t0\t0\t0\nacct\t2\t0\tH\t0\t0\t0\t0\nday\t3\t2\nacct\t1\t0\tH\t0\t0\t0\t-400000000\nacct\t2\t0\tH\t0\t0\t0\t-200000000\nday\t4\t2\nacct\t1\t0\tH\t0\t0\t0\t0\nacct\t2\t0\tH\t0\t0\t0\t0\nday\t5\t2\nacct\t1\t0\tH\t0\t0\t0\t0\nacct\t2\t0\tH\t0\t0\t0\t0\nday\t6\t2\nacct\t1\t0\tH\t0\t0\t0\t-100000000\nacct\t2\t0\tH\t0\t0\t0\t-300000000\nday\t31\t2\nacct\t1\t0\tH\t0\t0\t0\t0\nacct\t2\t0\tH\t0\t0\t0\t0\nend\n" gives "day\t2\t0\t0\ndaily\t1\t0\t0\t0\t0\t0\ndaily\t2\t0\t0\t0\t0\t0\ntotal\t0\t0\t0\t0\t0\nday\t3\t600000000\t400000000\ndaily\t1\t400000000\t666666666667\t26666666667\t29333333333\t58666666667\ndaily\t2\t200000000\t333333333334\t13333333333\t14666666667\t29333333333\ntotal\t600000000\t1000000000001\t40000000000\t44000000000\t88000000000\nday\t4\t0\t400000000\ndaily\t1\t0\t0\t0\t0\t0\ndaily\t2\t0\t0\t0\t0\t0\ntotal\t0\t0\t0\t0\t0\nday\t5\t0\t400000000\ndaily\t1\t0\t0\t0\t0\t0\ndaily\t2\t0\t0\t0\t0\t0\ntotal\t0\t0\t0\t0\t0\nday\t6\t400000000\t400000000\ndaily\t1\t100000000\t250000000000\t10000000000\t11000000000\t22000000000\ndaily\t2\t300000000\t750000000000\t30000000000\t33000000000\t66000000000\ntotal\t400000000\t1000000000000\t40000000000\t44000000000\t88000000000\nday\t31\t0\t400000000\ndaily\t1\t0\t0\t0\t0\t0\ndaily\t2\t0\t0\t0\t0\t0\ntotal\t0\t0\t0\t0\t0\nfund\t2\t400000000\t440000001\ncontribution\t1\t201666667\t201666667\t403333334\ncontribution\t2\t238333334\t238333334\t476666668\n")
+    -- only days without losses
+    ∷ ("period\t2\t1\nmember\t1\t0\nmember\t2\t0\nday\t1\t2\nacct\t1\t0\tH\t0\t0\t0\t0\nacct\t2\t0\tH\t0\t0\t0\t0\nday\t2\t2\nacct\t1\t0\tH\t0\t0\t0\t0\nacct\t2\t0\tH\t0\t0\t0\t0\nday\t31\t2\nacct\t1\t0\tH\t0\t0\t0\t0\nacct\t2\t0\tH\t0\t0\t0\t0\nend\n" gives "day\t1\t0\t0\ndaily\t1\t0\t0\t0\t0\t0\ndaily\t2\t0\t0\t0\t0\t0\ntotal\t0\t0\t0\t0\t0\nday\t2\t0\t0\ndaily\t1\t0\t0\t0\t0\t0\ndaily\t2\t0\t0\t0\t0\t0\ntotal\t0\t0\t0\t0\t0\nday\t31\t0\t0\ndaily\t1\t0\t0\t0\t0\t0\ndaily\t2\t0\t0\t0\t0\t0\ntotal\t0\t0\t0\t0\t0\nfund\t0\t0\t100000000\ncontribution\t1\t0\t50000000\t100000000\ncontribution\t2\t0\t50000000\t100000000\n")
+    -- two days without losses of one number: 3
+    ∷ ("period\t1\t1\nmember\t1\t0\nday\t5\t1\nacct\t1\t0\tH\t0\t0\t0\t0\nday\t5\t1\nacct\t1\t0\tH\t0\t0\t0\t0\nend\n" gives "day\t5\t0\t0\ndaily\t1\t0\t0\t0\t0\t0\ntotal\t0\t0\t0\t0\t0\nrefused\t3\t5\n")
+    -- the number of a day without losses again, and a bad account: 3
+    ∷ ("period\t1\t1\nmember\t1\t0\nday\t1\t1\nacct\t1\t0\tH\t10\t0\t0\t0\nday\t5\t1\nacct\t1\t0\tH\t0\t0\t0\t0\nday\t5\t1\nacct\t2\t0\tH\t10\t0\t0\t0\nend\n" gives "day\t1\t10\t10\ndaily\t1\t10\t1000000000000\t1000\t1100\t2200\ntotal\t10\t1000000000000\t1000\t1100\t2200\nday\t5\t0\t10\ndaily\t1\t0\t0\t0\t0\t0\ntotal\t0\t0\t0\t0\t0\nrefused\t3\t7\n")
+    -- 3 for a number below that of a day without losses, and above that of the day that counts
+    ∷ ("period\t1\t1\nmember\t1\t0\nday\t1\t1\nacct\t1\t0\tH\t10\t0\t0\t0\nday\t5\t1\nacct\t1\t0\tH\t0\t0\t0\t0\nday\t3\t1\nacct\t1\t0\tH\t10\t0\t0\t0\nend\n" gives "day\t1\t10\t10\ndaily\t1\t10\t1000000000000\t1000\t1100\t2200\ntotal\t10\t1000000000000\t1000\t1100\t2200\nday\t5\t0\t10\ndaily\t1\t0\t0\t0\t0\t0\ntotal\t0\t0\t0\t0\t0\nrefused\t3\t7\n")
+    -- margins that just cover; then by a dollar one does not
+    ∷ ("period\t2\t2\nmember\t1\t0\nmember\t2\t7\nday\t1\t2\nacct\t1\t0\tH\t0\t9\t0\t-9\t-4\nacct\t2\t0\tH\t0\t1000000000000\t0\t0\t-1000000000000\nday\t2\t2\nacct\t1\t0\tH\t0\t9\t0\t-9\t-4\nacct\t2\t0\tH\t0\t999999999999\t0\t0\t-1000000000000\nday\t3\t2\nacct\t1\t0\tH\t0\t9\t0\t-9\t-4\nacct\t2\t0\tH\t0\t8\t0\t0\t-8\nend\n" gives "day\t1\t0\t0\ndaily\t1\t0\t0\t0\t0\t0\ndaily\t2\t0\t0\t0\t0\t0\ntotal\t0\t0\t0\t0\t0\nday\t2\t1\t1\ndaily\t1\t0\t0\t0\t0\t0\ndaily\t2\t1\t1000000000000\t100\t110\t220\ntotal\t1\t1000000000000\t100\t110\t220\nday\t3\t0\t1\ndaily\t1\t0\t0\t0\t0\t0\ndaily\t2\t0\t0\t0\t0\t0\ntotal\t0\t0\t0\t0\t0\nfund\t1\t1\t100000000\ncontribution\t1\t0\t50000000\t100000000\ncontribution\t2\t2\t50000000\t100000000\n")
+    -- an extra that is not counted: without it there would be no loss
+    ∷ ("period\t1\t1\nmember\t1\t0\nday\t1\t1\nacct\t1\t0\tH\t0\t9\t0\t-9\nday\t2\t1\nacct\t1\t0\tH\t0\t9\t1\t-9\nend\n" gives "day\t1\t0\t0\ndaily\t1\t0\t0\t0\t0\t0\ntotal\t0\t0\t0\t0\t0\nday\t2\t1\t1\ndaily\t1\t1\t1000000000000\t100\t110\t220\ntotal\t1\t1000000000000\t100\t110\t220\nfund\t1\t1\t50000000\ncontribution\t1\t2\t50000000\t100000000\n")
+    -- a day without losses on which clients lose what the house account covers, to the dollar
+    ∷ ("period\t1\t1\nmember\t1\t0\nday\t1\t1\nacct\t1\t0\tH\t10\t0\t0\t0\nday\t2\t4\nacct\t1\t0\tH\t0\t7\t0\t-2\nacct\t1\t1\tR\t0\t0\t0\t-3\nacct\t1\t2\tR\t0\t0\t0\t-1\nacct\t1\t3\tU\t0\t0\t0\t-1\nday\t3\t4\nacct\t1\t0\tH\t0\t6\t0\t-2\nacct\t1\t1\tR\t0\t0\t0\t-3\nacct\t1\t2\tR\t0\t0\t0\t-1\nacct\t1\t3\tU\t0\t0\t0\t-1\nend\n" gives "day\t1\t10\t10\ndaily\t1\t10\t1000000000000\t1000\t1100\t2200\ntotal\t10\t1000000000000\t1000\t1100\t2200\nday\t2\t0\t10\ndaily\t1\t0\t0\t0\t0\t0\ntotal\t0\t0\t0\t0\t0\nday\t3\t1\t10\ndaily\t1\t1\t1000000000000\t1000\t1100\t2200\ntotal\t1\t1000000000000\t1000\t1100\t2200\nfund\t2\t10\t50000000\ncontribution\t1\t11\t50000000\t100000000\n")
+    -- a day without losses between one of T above 0 and Max EUL 0 and one with both above 0
+    ∷ ("period\t1\t2\nmember\t1\t0\nday\t1\t2\nacct\t1\t0\tH\t0\t7\t0\t-7\t0\nacct\t1\t1\tR\t0\t0\t0\t0\t-7\nday\t2\t2\nacct\t1\t0\tH\t0\t0\t0\t0\t0\nacct\t1\t1\tR\t0\t0\t0\t0\t0\nday\t3\t3\nacct\t1\t0\tH\t0\t5\t0\t-5\t0\nacct\t1\t1\tR\t0\t0\t0\t0\t-5\nacct\t1\t2\tU\t0\t0\t0\t-1\t0\nend\n" gives "day\t1\t7\t0\ndaily\t1\t7\t1000000000000\t0\t0\t0\ntotal\t7\t1000000000000\t0\t0\t0\nday\t2\t0\t0\ndaily\t1\t0\t0\t0\t0\t0\ntotal\t0\t0\t0\t0\t0\nday\t3\t6\t2\ndaily\t1\t6\t1000000000000\t200\t220\t440\ntotal\t6\t1000000000000\t200\t220\t440\nfund\t2\t2\t50000000\ncontribution\t1\t3\t50000000\t100000000\n")
+    -- 6 on a day without losses
+    ∷ ("period\t1\t1\nmember\t1\t0\nday\t1\t1\nacct\t1\t0\tH\t10\t0\t0\t0\nday\t2\t1\nacct\t1\t0\tH\t0\t1000000000001\t0\t0\nend\n" gives "day\t1\t10\t10\ndaily\t1\t10\t1000000000000\t1000\t1100\t2200\ntotal\t10\t1000000000000\t1000\t1100\t2200\nrefused\t6\t6\n")
+    -- 5 on a day without losses
+    ∷ ("period\t1\t1\nmember\t1\t0\nday\t1\t1\nacct\t1\t0\tH\t0\t0\t0\t0\nday\t2\t2\nacct\t1\t0\tH\t0\t0\t0\t0\nacct\t1\t0\tR\t0\t0\t0\t0\nend\n" gives "day\t1\t0\t0\ndaily\t1\t0\t0\t0\t0\t0\ntotal\t0\t0\t0\t0\t0\nrefused\t5\t7\n")
+    -- 9 after a day without losses
+    ∷ ("period\t1\t1\nmember\t1\t0\nday\t1\t1\nacct\t1\t0\tH\t0\t0\t0\t0\nend\nend\n" gives "day\t1\t0\t0\ndaily\t1\t0\t0\t0\t0\t0\ntotal\t0\t0\t0\t0\t0\nrefused\t9\t6\n")
+    -- one member: two days without losses, clients covered to the dollar on the second, and one of 7
+    ∷ ("period\t1\t1\nmember\t1\t0\nday\t1\t2\nacct\t1\t0\tH\t0\t2\t0\t0\nacct\t1\t1\tA\t0\t0\t0\t0\nday\t2\t6\nacct\t1\t0\tH\t0\t6\t0\t-2\nacct\t1\t1\tR\t0\t0\t0\t-1\nacct\t1\t2\tR\t0\t0\t0\t0\nacct\t1\t3\tR\t0\t0\t0\t-3\nacct\t1\t4\tR\t0\t0\t0\t0\nacct\t1\t5\tR\t0\t0\t0\t0\nday\t3\t7\nacct\t1\t0\tH\t0\t5\t0\t-3\nacct\t1\t1\tR\t0\t0\t0\t-1\nacct\t1\t2\tR\t0\t0\t0\t-1\nacct\t1\t3\tR\t0\t0\t0\t-1\nacct\t1\t4\tR\t0\t0\t0\t-3\nacct\t1\t5\tA\t0\t0\t0\t-4\nacct\t1\t6\tU\t0\t0\t0\t0\nend\n" gives "day\t1\t0\t0\ndaily\t1\t0\t0\t0\t0\t0\ntotal\t0\t0\t0\t0\t0\nday\t2\t0\t0\ndaily\t1\t0\t0\t0\t0\t0\ntotal\t0\t0\t0\t0\t0\nday\t3\t7\t7\ndaily\t1\t7\t1000000000000\t700\t770\t1540\ntotal\t7\t1000000000000\t700\t770\t1540\nfund\t1\t7\t50000000\ncontribution\t1\t8\t50000000\t100000000\n")
+    -- one member: three days without losses, clients covered to the dollar on the second
+    ∷ ("period\t1\t1\nmember\t1\t0\nday\t1\t3\nacct\t1\t0\tH\t0\t4\t0\t-2\nacct\t1\t1\tR\t0\t0\t0\t0\nacct\t1\t2\tU\t0\t0\t0\t0\nday\t2\t6\nacct\t1\t0\tH\t0\t5\t0\t0\nacct\t1\t1\tR\t0\t0\t0\t-3\nacct\t1\t2\tR\t0\t0\t0\t-2\nacct\t1\t3\tR\t0\t0\t0\t-2\nacct\t1\t4\tR\t0\t0\t0\t-1\nacct\t1\t5\tR\t0\t0\t0\t-1\nday\t3\t1\nacct\t1\t0\tH\t0\t3\t0\t-2\nend\n" gives "day\t1\t0\t0\ndaily\t1\t0\t0\t0\t0\t0\ntotal\t0\t0\t0\t0\t0\nday\t2\t0\t0\ndaily\t1\t0\t0\t0\t0\t0\ntotal\t0\t0\t0\t0\t0\nday\t3\t0\t0\ndaily\t1\t0\t0\t0\t0\t0\ntotal\t0\t0\t0\t0\t0\nfund\t0\t0\t50000000\ncontribution\t1\t0\t50000000\t100000000\n")
+    -- four members: the first and the last of three days, one member of four loses on the second
+    ∷ ("period\t4\t1\nmember\t1\t0\nmember\t2\t0\nmember\t3\t0\nmember\t4\t0\nday\t1\t4\nacct\t1\t0\tH\t0\t1\t0\t0\nacct\t2\t0\tH\t0\t0\t0\t0\nacct\t3\t0\tH\t0\t1000000000000\t0\t0\nacct\t4\t0\tH\t0\t0\t0\t0\nday\t2\t4\nacct\t1\t0\tH\t0\t1000000000000\t0\t-2\nacct\t2\t0\tH\t0\t1000000000000\t0\t-2\nacct\t3\t0\tH\t0\t0\t0\t-2\nacct\t4\t0\tH\t0\t1000000000000\t0\t-2\nday\t3\t4\nacct\t1\t0\tH\t0\t0\t0\t0\nacct\t2\t0\tH\t0\t0\t0\t0\nacct\t3\t0\tH\t0\t0\t0\t0\nacct\t4\t0\tH\t0\t0\t0\t0\nend\n" gives "day\t1\t0\t0\ndaily\t1\t0\t0\t0\t0\t0\ndaily\t2\t0\t0\t0\t0\t0\ndaily\t3\t0\t0\t0\t0\t0\ndaily\t4\t0\t0\t0\t0\t0\ntotal\t0\t0\t0\t0\t0\nday\t2\t2\t2\ndaily\t1\t0\t0\t0\t0\t0\ndaily\t2\t0\t0\t0\t0\t0\ndaily\t3\t2\t1000000000000\t200\t220\t440\ndaily\t4\t0\t0\t0\t0\t0\ntotal\t2\t1000000000000\t200\t220\t440\nday\t3\t0\t2\ndaily\t1\t0\t0\t0\t0\t0\ndaily\t2\t0\t0\t0\t0\t0\ndaily\t3\t0\t0\t0\t0\t0\ndaily\t4\t0\t0\t0\t0\t0\ntotal\t0\t0\t0\t0\t0\nfund\t1\t2\t200000000\ncontribution\t1\t0\t50000000\t100000000\ncontribution\t2\t0\t50000000\t100000000\ncontribution\t3\t3\t50000000\t100000000\ncontribution\t4\t0\t50000000\t100000000\n")
+    -- three members: a day of one dollar, then two without losses, two margins that just cover on the first of them
+    ∷ ("period\t3\t1\nmember\t1\t0\nmember\t2\t0\nmember\t3\t0\nday\t1\t3\nacct\t1\t0\tH\t0\t1\t0\t-1\nacct\t2\t0\tH\t0\t1000000000000\t0\t-1\nacct\t3\t0\tH\t0\t0\t0\t-1\nday\t2\t3\nacct\t1\t0\tH\t0\t1\t0\t-1\nacct\t2\t0\tH\t0\t1\t0\t-1\nacct\t3\t0\tH\t0\t1000000000000\t0\t-1\nday\t3\t3\nacct\t1\t0\tH\t0\t0\t0\t0\nacct\t2\t0\tH\t0\t0\t0\t0\nacct\t3\t0\tH\t0\t0\t0\t0\nend\n" gives "day\t1\t1\t1\ndaily\t1\t0\t0\t0\t0\t0\ndaily\t2\t0\t0\t0\t0\t0\ndaily\t3\t1\t1000000000000\t100\t110\t220\ntotal\t1\t1000000000000\t100\t110\t220\nday\t2\t0\t1\ndaily\t1\t0\t0\t0\t0\t0\ndaily\t2\t0\t0\t0\t0\t0\ndaily\t3\t0\t0\t0\t0\t0\ntotal\t0\t0\t0\t0\t0\nday\t3\t0\t1\ndaily\t1\t0\t0\t0\t0\t0\ndaily\t2\t0\t0\t0\t0\t0\ndaily\t3\t0\t0\t0\t0\t0\ntotal\t0\t0\t0\t0\t0\nfund\t1\t1\t150000000\ncontribution\t1\t0\t50000000\t100000000\ncontribution\t2\t0\t50000000\t100000000\ncontribution\t3\t2\t50000000\t100000000\n")
+    -- two groups of one member each: a day without losses, then one of one dollar
+    ∷ ("period\t2\t1\nmember\t1\t4\nmember\t2\t24\nday\t11\t2\nacct\t1\t0\tH\t5744\t0\t0\t262067\nacct\t2\t0\tH\t136\t0\t0\t124658\nday\t19\t2\nacct\t1\t0\tH\t-69\t2872\t0\t-129\nacct\t2\t0\tH\t-9\t391\t0\t-401\nend\n" gives "day\t11\t0\t0\ndaily\t1\t0\t0\t0\t0\t0\ndaily\t2\t0\t0\t0\t0\t0\ntotal\t0\t0\t0\t0\t0\nday\t19\t1\t1\ndaily\t1\t0\t0\t0\t0\t0\ndaily\t2\t1\t1000000000000\t100\t110\t220\ntotal\t1\t1000000000000\t100\t110\t220\nfund\t1\t1\t100000000\ncontribution\t1\t0\t50000000\t100000000\ncontribution\t2\t2\t50000000\t100000000\n")
+    -- 3 for a number below that of a day without losses
+    ∷ ("period\t2\t1\nmember\t1\t0\nmember\t2\t0\nday\t3\t2\nacct\t1\t0\tH\t0\t0\t0\t0\nacct\t2\t0\tH\t0\t0\t0\t0\nday\t2\t2\nacct\t1\t0\tH\t390000000\t0\t0\t0\nacct\t2\t0\tH\t10000000\t0\t0\t0\nend\n" gives "day\t3\t0\t0\ndaily\t1\t0\t0\t0\t0\t0\ndaily\t2\t0\t0\t0\t0\t0\ntotal\t0\t0\t0\t0\t0\nrefused\t3\t7\n")
     ∷ []
 
 -- Up to here it is written.
