@@ -364,22 +364,20 @@ impl Period {
             return Err(Refused { row: 6, line });
         }
         day.end_member(self.n - 1, self.groups[self.n - 1], self.k);
-        let total = day.losses.iter().sum();
-        if total == 0 {
-            return Err(Refused { row: 7, line });
-        }
+        let total: u64 = day.losses.iter().sum();
         self.last_day = number;
         self.max_eul = self.max_eul.max(day.max_eul()); // the highest so far, which the day reports
-        self.days += 1;
+        self.days += u64::from(total > 0); // a day without losses does not count
+        let divisor = total.max(1); // there every loss is 0, and so is every figure
         report.line(b"day", &[number, total, self.max_eul]);
         let mut sums = [0; 5];
         for (i, &loss) in day.losses[..self.n].iter().enumerate() {
-            let share = (u128::from(loss) * SHARE).div_ceil(u128::from(total)) as u64;
+            let share = (u128::from(loss) * SHARE).div_ceil(u128::from(divisor)) as u64;
             self.shares[i] += share;
             let product = u128::from(loss) * u128::from(self.max_eul);
-            let value = nearest(100 * product, total);
-            let reserve = nearest(110 * product, total);
-            let estimate = nearest(220 * product, total);
+            let value = nearest(100 * product, divisor);
+            let reserve = nearest(110 * product, divisor);
+            let estimate = nearest(220 * product, divisor);
             let member = i as u64 + 1;
             report.line(b"daily", &[member, loss, share, value, reserve, estimate]);
             for (sum, figure) in sums.iter_mut().zip([loss, share, value, reserve, estimate]) {
@@ -390,7 +388,8 @@ impl Period {
         Ok(())
     }
 
-    /// The closing call, which prints the fund. Without days there are no shares, and no charge.
+    /// The closing call, which prints the fund. Where no day counts there are no shares, and no
+    /// charge.
     fn close(&self, report: &mut Report) {
         let divisor = 10 * u128::from(self.days.max(1)) * SHARE;
         let mut charges = [0; MEMBERS];

@@ -3,8 +3,9 @@
 
 Runs PROGRAM on N generated months, and on all of a directory of vectors, and compares what it
 prints byte for byte with the recalculation. Prints how many months there were, how many differ,
-the first that does (saved to a file), how many have several accepted days, and how the reports
-end. Exits with 1 where any differ.
+the first that does (saved to a file), how many have several accepted days, how many have days
+without losses, by their place among the accepted days, and how the reports end. Exits with 1 where
+any differ.
 A program that is ended by a signal, or takes a minute, differs too.
 """
 import argparse
@@ -21,7 +22,8 @@ from itertools import zip_longest
 import months
 import recalculation
 
-ENDS = ["fund", "fund 0"] + [f"refused {row}" for row in (1, 3, 4, 5, 6, 7, 9)]
+PLACES = ["first", "between", "last", "in a row", "all"]
+ENDS = ["fund", "fund 0"] + [f"refused {row}" for row in (1, 3, 4, 5, 6, 9)]
 
 
 def ran(program, text):
@@ -35,16 +37,23 @@ def ran(program, text):
 
 
 def end_of(report):
-    """How a report ends: in a refusal, in a fund, or in that of a month without days."""
+    """How a report ends: in a refusal, in a fund, or in that of a month in which no day counts."""
     fields = report.rstrip(b"\n").rsplit(b"\n", 1)[-1].split(b"\t")
     if fields[0] == b"refused":
         return "refused " + fields[1].decode()
-    return "fund 0" if report.startswith(b"fund\t0\t") else "fund"
+    return "fund 0" if b"\nfund\t0\t" in b"\n" + report else "fund"
 
 
 def days_of(report):
-    """How many accepted days a report has."""
-    return sum(line.startswith(b"day\t") for line in report.split(b"\n"))
+    """Of each accepted day of a report whether it is one without losses."""
+    return [line.split(b"\t")[2] == b"0" for line in report.split(b"\n") if line.startswith(b"day\t")]
+
+
+def places_of(days):
+    """Where days without losses stand among the accepted days."""
+    return [place for place, holds in zip(PLACES, (
+        days and days[0], any(days[1:-1]), len(days) > 1 and days[-1],
+        any(one and other for one, other in zip(days, days[1:])), days and all(days))) if holds]
 
 
 def one(task):
@@ -108,12 +117,14 @@ def main():
                 first = first or (name, text)
         print(f"{len(vectors)} vectors, {differ} different")
 
-    in_vectors, count, several, ends = differ, 0, 0, Counter()
+    in_vectors, count, several, without, places, ends = differ, 0, 0, 0, Counter(), Counter()
     tasks = ((program, given.seed, index) for index in range(given.months))
     with multiprocessing.Pool(2) as pool:
         for index, days, end, same in pool.imap(one, tasks, chunksize=20):
             count += 1
-            several += days > 1
+            several += len(days) > 1
+            without += any(days)
+            places.update(places_of(days))
             ends[end] += 1
             if not same:
                 differ += 1
@@ -122,6 +133,7 @@ def main():
                 if given.stop:
                     break
     print(f"{count} months, {several} of them with several accepted days, {differ - in_vectors} different")
+    print(f"{without} of them have days without losses: " + ", ".join(f"{place} {places[place]}" for place in PLACES))
     for end in ENDS:
         print(f"  {end:10}{ends[end]:7}{100 * ends[end] / max(1, count):7.1f}%")
     if first:

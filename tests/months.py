@@ -1,5 +1,5 @@
 #!/usr/bin/env python3
-"""Seeded months for the comparison: valid, edge, damaged and large ones.
+"""Seeded months for the comparison: valid, with days without losses, edge, damaged and large ones.
 
 month(seed, index) gives the text of one; the same two give the same text.
 months.py SEED INDEX writes it on standard output.
@@ -144,9 +144,66 @@ def valid(rng, n=None, k=None, days=None):
     for number in numbers_of(rng, days):
         if rng.random() < 0.3:
             style = rng.choice(STYLES)
-        sure = days > 8 or rng.random() < 0.7
+        sure = rng.random() < 0.7
         made.append(Day(number, accounts_of(rng, n, k, most, kinds, style, safe, sure)))
     return Month(n, k, groups_of(rng, n), made)
+
+
+# Months with days without losses
+
+def covered(rng, month, day):
+    """T is 0: accounts that do not fall, or not below their margin; clients that do, and a house that covers them, often just so."""
+    style = rng.choice(STYLES)
+    house, clients = None, []
+    for row in day.accounts + [None]:
+        if row is None or row[1] == 0:
+            if clients:                     # no client's loss counts twice, and one client's as much as its kind says
+                loss = 2 * sum(lost for _, lost in clients)
+                if len(clients) == 1:
+                    (kind, lost), = clients
+                    loss = lost if kind == b"R" else lost + (lost + 1) // 2
+                house[3:] = [0, loss + rng.choice((0, 0, 1, 5)), 0] + [0] * month.k
+            house, clients = row, []
+        if row is None:
+            break
+        way = rng.randrange(5)
+        loss = amount(rng, style)
+        stress = [-rng.choice((loss, loss // 2, 0)) for _ in range(month.k)]
+        if way == 0:                        # nothing falls
+            row[3:] = [0, 0, 0] + [0] * month.k
+        elif way == 1:                      # it gains
+            row[3:] = [0, rng.choice((0, 1, LIMIT)), 0] + [-value for value in stress]
+        elif way == 2:                      # the margin covers its largest fall, often just so
+            margin = within(-min(stress) + rng.choice((0, 0, 0, 1)))
+            row[3:] = [0, margin, 0] + stress
+        elif way == 3:                      # it does with the extra off, just so
+            row[3:] = [0, LIMIT, LIMIT + min(stress)] + stress
+        elif row[1] and row[2] in (b"R", b"A", b"U") and len(clients) < 2:
+            lost = rng.randint(1, 9)
+            row[3:] = [0, 0, 0] + [-lost] + [0] * (month.k - 1)
+            clients.append((row[2], lost))
+        else:
+            row[3:] = [7, 0, 0] + [7] * month.k
+
+
+def quiet(rng):
+    """A valid month whose first days are without losses, or its last, some between or all; at times a day follows whose number is not above
+    the last one's, or there is an edge elsewhere."""
+    days = rng.choice((1, 2, 3, 3, 4, 5))
+    month = valid(rng, days=days)
+    some_days = rng.randint(1, days)
+    for day in rng.choice((month.days[:some_days], month.days[-some_days:], month.days[1:-1] or month.days, month.days,
+                           rng.sample(month.days, some_days))):
+        covered(rng, month, day)
+    if rng.random() < 0.25:
+        last = month.days[-1]
+        accounts = [list(row) for row in rng.choice(month.days).accounts]
+        month.days.append(Day(rng.choice((last.number, last.number - 1, month.days[0].number, last.number + 1)), accounts))
+        if rng.random() < 0.5:
+            covered(rng, month, month.days[-1])
+    if rng.random() < 0.2:
+        rng.choice(MONTH_EDGES)(rng, month, rng.choice(month.days))
+    return joined(month.lines())
 
 
 # Edges of a month's numbers; each changes the month, most of them in the day it is given
@@ -290,7 +347,7 @@ def edge_extra(rng, month, day):
                                      (LIMIT + 1, LIMIT), (0, 1), (LIMIT + 1, LIMIT + 2)))
 
 
-def edge_no_loss(rng, month, day):
+def edge_without_losses(rng, month, day):
     """T is 0: nothing falls, or margin covers it all, or by one dollar it does not."""
     for row in day.accounts:
         row[3:] = [0, 0, 0] + [0] * month.k
@@ -370,9 +427,9 @@ def edge_days(rng, month, day):
 
 
 def edge_several(rng, month, day):
-    """Two or three refusals that could each be given for the same day."""
-    rows = rng.sample((3, 4, 5, 6, 7, 9), rng.choice((2, 2, 3)))
-    if 7 in rows:
+    """Two or three refusals that could each be given for the same day, at times one without losses."""
+    rows = rng.sample((3, 4, 5, 6, 9), rng.choice((2, 2, 3)))
+    if rng.random() < 0.4:
         for row in day.accounts:
             row[3:] = [0] * len(row[3:])
     if 3 in rows:
@@ -396,7 +453,7 @@ MONTH_EDGES = (
     edge_day_number, edge_day_number, edge_day_number, edge_count, edge_count, edge_member,
     edge_member, edge_account, edge_account, edge_kind, edge_kind, edge_kind, edge_house,
     edge_line_bytes, edge_line_bytes, edge_amount, edge_amount, edge_amount, edge_amount,
-    edge_extra, edge_no_loss, edge_no_loss, edge_most, edge_no_max, edge_missing, edge_missing,
+    edge_extra, edge_without_losses, edge_without_losses, edge_most, edge_no_max, edge_missing, edge_missing,
     edge_member_more, edge_order, edge_days, edge_several, edge_several, edge_several)
 
 
@@ -593,7 +650,7 @@ DAMAGES = (byte_changed, byte_changed, byte_deleted, byte_inserted, cut, digits_
 
 
 def damaged(rng):
-    text = joined(valid(rng).lines()) if rng.random() < 0.8 else edge(rng)
+    text = some(rng, (7, lambda rng: joined(valid(rng).lines())), (1, quiet), (2, edge))(rng)
     for _ in range(rng.choice((1, 1, 1, 2, 3))):
         if text:
             text = rng.choice(DAMAGES)(rng, text)
@@ -720,7 +777,7 @@ LARGE = ((8, day_bytes), (6, day_bytes_by_kind), (8, many_accounts), (8, many_da
 
 def month(seed, index):
     rng = random.Random(f"{seed} {index}")
-    make = some(rng, (32, lambda rng: joined(valid(rng).lines())), (43, edge), (22, damaged),
+    make = some(rng, (29, lambda rng: joined(valid(rng).lines())), (8, quiet), (39, edge), (21, damaged),
                 (3, some(rng, *LARGE)))
     return make(rng)
 
