@@ -5,7 +5,7 @@ use mathlib.Core.List.{List, [], ◌∷◌, ◌++◌}
 use Prim.Native.Nat.{◌<◌}
 use borrow.Author.Tests.{ltb-true}
 use Rattle.std.specs.List.{AllByRecursion}
-use Rattle.numbers.proofs.Lists.{◌∈◌, keep_append, keep_cons, keep_cons_skip, keep_none, every_mem, mem_keep}
+use Rattle.numbers.proofs.Lists.{◌∈◌, keep_append, keep_cons, keep_cons_skip, keep_none, keep_all, every_mem, mem_keep}
 use Rattle.methodology.specs.declared.Opening.{Opening}
 use Rattle.methodology.specs.Day.{total}
 use Rattle.methodology.specs.Contribution.{KeptDay, counts, counted}
@@ -27,6 +27,11 @@ module _ (o : Opening) where
   pub counted_some : {d : KeptDay} (days : List KeptDay) → d ∈ counted o days → 0 < total o d.accounts
   unfolding counted
   counted_some days m = ltb-true 0 _ (mem_keep _ days m).1
+
+  -- so each of them counts
+  pub counted_again : (days : List KeptDay) → counted o (counted o days) ≡ counted o days
+  unfolding counted
+  counted_again days = keep_all _ (counted o days) (λ d m. (mem_keep _ days m).1)
 
   -- where no day has any, none counts
   pub counted_none : (days : List KeptDay) → AllByRecursion (λ d. total o d.accounts ≡ 0) days → counted o days ≡ []

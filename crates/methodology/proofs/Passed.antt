@@ -1,8 +1,8 @@
--- A refusal table that lets a call pass: none of its rows held; what a test of limits leaves; and what holds of one of two, as a call is
--- accepted or a test holds.
+-- A refusal table that lets a call pass: none of its rows held; what a test of limits leaves; what a call answers and writes by the table;
+-- and what holds of one of two, as a call is accepted or a test holds.
 use mathlib.Core.Path.{◌≡◌, refl}
 use mathlib.Core.Bool.{Bool, true, false, cond}
-use mathlib.Core.List.{[]}
+use mathlib.Core.List.{List, []}
 use Prim.Native.Nat.{ℕ, ◌≤◌, ◌<◌}
 use native.Mathlib.Omega.{arith}
 use lib.Dec.{ltb, leb}
@@ -13,7 +13,7 @@ use Rattle.methodology.specs.declared.Opening.{Opening}
 use Rattle.methodology.specs.declared.Refusal.{Refusal}
 use Rattle.std.specs.Prelude.{Ok, Err}
 use Rattle.methodology.specs.Refusals.{Verdict, clear, row◌when◌else◌, outside, bad_day_number}
-use Rattle.methodology.specs.Register.{Call, Register, refusal, accept, if_accepted, step}
+use Rattle.methodology.specs.Register.{Call, Register, refusal, accept, if_accepted, step, returned, written, answer_by, answer, buffer}
 
 pub passed : (met : Refusal) (b : Bool) (rest : Verdict) → row met when b else rest ≡ clear → (b ≡ false) × (rest ≡ clear)
 unfolding row◌when◌else◌
@@ -29,6 +29,23 @@ step_clear g c e = rw e
 pub opened_anew : (g : Register) (o : Opening) → refusal g (Call.opening o) ≡ clear → step g (Call.opening o) ≡ record { status = Open; held = o; days = [] }
 unfolding accept
 opened_anew g o e = step_clear g (Call.opening o) e
+
+-- figures and written numbers are an accepted call's, so they go by the register as acceptance leaves it
+pub answer_is : (g : Register) (c : Call) → answer g c ≡ answer_by (refusal g c) (returned (accept g c) c)
+unfolding answer step
+answer_is g c = by (refusal g c)
+  where
+    by : (x : Verdict) → answer_by x (returned (if_accepted x (accept g c) g) c) ≡ answer_by x (returned (accept g c) c)
+    by (Ok _) = refl
+    by (Err met) = refl
+
+pub buffer_is : (g : Register) (c : Call) (before : List ℕ) → buffer g c before ≡ if_accepted (refusal g c) (written (accept g c) c) before
+unfolding buffer step
+buffer_is g c before = by (refusal g c)
+  where
+    by : (x : Verdict) → if_accepted x (written (if_accepted x (accept g c) g) c) before ≡ if_accepted x (written (accept g c) c) before
+    by (Ok _) = refl
+    by (Err met) = refl
 
 -- what holds of both ways holds of the one that is taken
 pub either : {A : Type 0} (P : A → Type 0) (x : Verdict) (a b : A) → (x ≡ clear → P a) → P b → P (if_accepted x a b)

@@ -160,10 +160,14 @@ module _ {A : Type 0} (p : A → Bool) where
       by true e h (there m) = (there (h m).0, (h m).1)
       by false e h m = (there (h m).0, (h m).1)
 
--- where none passes
+-- where none passes, and where all do
 pub keep_none : {A : Type 0} (p : A → Bool) (xs : List A) → ((x : A) → x ∈ xs → p x ≡ false) → filter p xs ≡ []
 keep_none p [] h = refl
 keep_none p (x ∷ xs) h = rw (h x (here refl), keep_none p xs (λ y m. h y (there m)))
+
+pub keep_all : {A : Type 0} (p : A → Bool) (xs : List A) → ((x : A) → x ∈ xs → p x ≡ true) → filter p xs ≡ xs
+keep_all p [] h = refl
+keep_all p (x ∷ xs) h = rw (h x (here refl), keep_all p xs (λ y m. h y (there m)))
 
 -- where the elements from a to b - 1 pass a test and no others do, they are those that pass
 pub keep_part : {A : Type 0} (p : A → Bool) (xs : List A) (d : A) (a b : ℕ) → a ≤ b → b ≤ length xs
