@@ -1,7 +1,6 @@
 -- Document 02, Change 4: a day without losses put into a month, between two of its accepted days. What it may change, by the register: no
 -- figure of another call, and of refusals the number alone.
-use Rattle.std.specs.Prelude.{◌≡◌, List, [], ◌∷◌, ℕ, ◌<◌, length, Option, Some, None}
-use Rattle.numbers.specs.Fractions.{Fraction}
+use Rattle.std.specs.Prelude.{◌≡◌, List, [], ◌∷◌, ℕ, ◌<◌, Option, Some, None}
 use Rattle.methodology.specs.declared.Opening.{Opening}
 use Rattle.methodology.specs.Account.{DayInput, accounts}
 use Rattle.methodology.specs.Day.{total}
