@@ -9,13 +9,17 @@ ghost use Rattle.methodology.specs.Contribution.{charge, funded, three};
 ghost use Rattle.quotient.specs.Ranges.{greatest_total, Loss, Charge};
 ghost use Rattle.fund.specs.Shares.{share_in, with_shares};
 
-// One member's five daily numbers, at the front of out: its loss is e, the total t, and max the Max EUL that the day
-// reports.
+// One member's five daily numbers, at the front of out: its loss is e, the total t, and max the Max EUL that the day reports. On a day
+// without losses all are 0.
 fn write_five(e: u64, max: u64, t: u64, out: &mut [u64])
     requires loss { Loss e t × (max ≤ greatest_total) }
     requires in_bounds { 5 ≤ length out.old }
     ensures { out.new ≡ five e max t ++ drop 5 out.old }
 {
+    if t == 0 {
+        out[..5].copy_from_slice(&[0; 5]);
+        return;
+    }
     let cents = quotient::daily(e, max, t);
     out[0] = e;
     out[1] = quotient::share(e, t);

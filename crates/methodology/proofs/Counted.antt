@@ -1,14 +1,16 @@
 -- The days that count (document 02, Change 4): a day more is one of them where it has losses, and changes nothing where it has none.
-use mathlib.Core.Path.{◌≡◌}
+use mathlib.Core.Path.{◌≡◌, refl}
 use mathlib.Core.Bool.{true, false}
 use mathlib.Core.List.{List, [], ◌∷◌, ◌++◌}
-use Prim.Native.Nat.{◌<◌}
+use Prim.Native.Nat.{ℕ, ◌+◌, ◌<◌}
 use borrow.Author.Tests.{ltb-true}
 use Rattle.std.specs.List.{AllByRecursion}
+use Rattle.numbers.specs.Sums.{Σ}
 use Rattle.numbers.proofs.Lists.{◌∈◌, keep_append, keep_cons, keep_cons_skip, keep_none, keep_all, every_mem, mem_keep}
 use Rattle.methodology.specs.declared.Opening.{Opening}
-use Rattle.methodology.specs.Day.{total}
-use Rattle.methodology.specs.Contribution.{KeptDay, counts, counted}
+use Rattle.methodology.specs.Member.{loss}
+use Rattle.methodology.specs.Day.{total, share}
+use Rattle.methodology.specs.Contribution.{KeptDay, counts, counted, sum_of_shares}
 
 module _ (o : Opening) where
   pub counted_cons : (d : KeptDay) (days : List KeptDay) → counts (total o d.accounts) ≡ true → counted o (d ∷ days) ≡ d ∷ counted o days
@@ -18,6 +20,17 @@ module _ (o : Opening) where
   pub counted_skip : (d : KeptDay) (days : List KeptDay) → counts (total o d.accounts) ≡ false → counted o (d ∷ days) ≡ counted o days
   unfolding counted
   counted_skip d days = keep_cons_skip _ d days
+
+  -- so it adds its share to a member's sum, or nothing
+  pub sum_cons : (d : KeptDay) (days : List KeptDay) (m : ℕ) → counts (total o d.accounts) ≡ true
+      → sum_of_shares o (d ∷ days) m ≡ share (loss o.k d.accounts m) (total o d.accounts) + sum_of_shares o days m
+  unfolding sum_of_shares Σ
+  sum_cons d days m e = rw (counted_cons d days e) refl
+
+  pub sum_skip : (d : KeptDay) (days : List KeptDay) (m : ℕ) → counts (total o d.accounts) ≡ false
+      → sum_of_shares o (d ∷ days) m ≡ sum_of_shares o days m
+  unfolding sum_of_shares
+  sum_skip d days m e = rw (counted_skip d days e) refl
 
   pub counted_append : (later earlier : List KeptDay) → counted o (later ++ earlier) ≡ counted o later ++ counted o earlier
   unfolding counted
@@ -33,7 +46,11 @@ module _ (o : Opening) where
   unfolding counted
   counted_again days = keep_all _ (counted o days) (λ d m. (mem_keep _ days m).1)
 
-  -- where no day has any, none counts
+  -- where there is no day, or none has any, none counts
+  pub counted_nil : counted o [] ≡ []
+  unfolding counted
+  counted_nil = refl
+
   pub counted_none : (days : List KeptDay) → AllByRecursion (λ d. total o d.accounts ≡ 0) days → counted o days ≡ []
   unfolding counted
   counted_none days none = keep_none _ days (λ d m. rw (every_mem _ days none d m))

@@ -6,23 +6,25 @@ use Prim.Native.Nat.{ℕ, ◌+◌, ◌*◌, ◌≤◌, ◌<◌}
 use native.Mathlib.Omega.{arith}
 use lib.Dec.{ltb}
 use lib.ListN.{length, get_or}
-use borrow.Author.Tests.{le-leb, le-ltb}
+use borrow.Author.Tests.{le-leb, le-ltb, ltb-true}
 use Rattle.std.specs.List.{list_any, range_with_len}
 use Rattle.std.proofs.lemmas.List.FromFn.{take-map-range_with_len, fill_by_all}
-use Rattle.numbers.proofs.Lists.{any_map, none_any}
+use Rattle.numbers.proofs.Lists.{by_index, any_map, none_any}
 use Rattle.methodology.specs.declared.Refusal.TheVariants.{OutOfTurn, BadOpening}
 use Rattle.methodology.specs.declared.Status.{Status}
 use Rattle.methodology.specs.declared.Status.TheVariants.{Fresh, Open, Closed}
 use Rattle.methodology.specs.declared.Opening.{Opening}
 use Rattle.methodology.specs.Account.{DayInput}
-use Rattle.methodology.specs.Day.{total, scale}
+use Rattle.methodology.specs.Day.{scale}
+use Rattle.methodology.specs.Contribution.{counts}
 use Rattle.methodology.specs.Refusals.{clear, is_open, bad_opening, opening_refusal}
 use Rattle.methodology.proofs.Passed.{passed, either, number_rises}
 use Rattle.quotient.specs.Ranges.{greatest_total}
+use Rattle.fund.specs.Shares.{plus_each}
 use Rattle.validation.specs.Passing.{Opened}
 use Rattle.validation.proofs.OpeningPasses.{opening_leaves}
 use Rattle.period.specs.declared.Period.{Period}
-use Rattle.period.specs.Calls.{fresh_period, held_by, in_range, status_of, opening_row, opened_period, accounts_brought, day_row, share_at, reported_by, sized_period, closing_row, closed_period}
+use Rattle.period.specs.Calls.{fresh_period, held_by, in_range, status_of, opening_row, opened_period, total_by, day_row, share_at, reported_by, sized_period, closing_row, closed_period}
 use Rattle.period.specs.Follows.{Reached, fresh, by_opening, by_day, by_closing}
 use Rattle.period.proofs.Sizing.{Admits, passes_all, reported_few, share_few}
 
@@ -46,27 +48,46 @@ opened_in_range o e =
     rw (groups_back o l.groups_long l.members_few, e)
 
 -- a day that the table lets pass
-module _ (p : Period) (d : DayInput) {room : ℕ} (s : Admits p d room) (positive : 0 < total (held_by p) (accounts_brought p d)) where
-  sums_few : list_any (ltb ((p.accrued.days + 1) * scale)) (sized_period p d).accrued.sums ≡ false
-  sums_few =
-      let r = s.in_range_lem in
+module _ (p : Period) (d : DayInput) {room : ℕ} (s : Admits p d room) where
+  -- the sums are at most D shares of the whole each, with this day where it counts, and without it
+  sums_with : 0 < total_by p d → list_any (ltb ((p.accrued.days + 1) * scale)) (plus_each p.accrued.sums (share_at p d)) ≡ false
+  sums_with positive =
       let most = (p.accrued.days + 1) * scale in
       let sum : ℕ → ℕ = λ i. get_or p.accrued.sums i 0 + share_at p d i in
       any_map (ltb most) sum (range_with_len 0 32)
-      ∙ none_any (λ i. ltb most (sum i)) (range_with_len 0 32) (λ i m. le-ltb most _ (omega (arith, r.sums i, share_few p d positive i)))
+      ∙ none_any (λ i. ltb most (sum i)) (range_with_len 0 32) (λ i m. le-ltb most _ (omega (arith, s.in_range_lem.sums i, share_few p d positive i)))
+
+  sums_without : list_any (ltb (p.accrued.days * scale)) p.accrued.sums ≡ false
+  sums_without =
+      let most = p.accrued.days * scale in
+      none_any (ltb most) p.accrued.sums (λ x m. le-ltb most x (by_index (λ x. x ≤ most) p.accrued.sums 0 (λ i l. s.in_range_lem.sums i) x m))
 
   pub sized_in_range : in_range (sized_period p d) ≡ true
   unfolding in_range
-  sized_in_range =
-      let r = s.in_range_lem in
-      let (a, b) = number_rises p.accrued.last d.terms.number s.rows.number in
-      rw (
-        le-leb d.terms.number 31 a,
-        le-leb (p.accrued.days + 1) d.terms.number (omega (arith, r.counted)),
-        le-leb (reported_by p d) greatest_total (reported_few s),
-        r.opened,
-        sums_few,
-      )
+  sized_in_range = by (counts (total_by p d)) refl
+    where
+      rises : (d.terms.number ≤ 31) × (p.accrued.last < d.terms.number)
+      rises = number_rises p.accrued.last d.terms.number s.rows.number
+
+      by : (t : Bool) → counts (total_by p d) ≡ t → in_range (sized_period p d) ≡ true
+      by true e =
+          rw (
+            e,
+            le-leb d.terms.number 31 rises.0,
+            le-leb (p.accrued.days + 1) d.terms.number (omega (arith, rises.1, s.in_range_lem.counted)),
+            le-leb (reported_by p d) greatest_total (reported_few s),
+            s.in_range_lem.opened,
+            sums_with (ltb-true 0 (total_by p d) e),
+          )
+      by false e =
+          rw (
+            e,
+            le-leb d.terms.number 31 rises.0,
+            le-leb p.accrued.days d.terms.number (omega (arith, rises.1, s.in_range_lem.counted)),
+            le-leb (reported_by p d) greatest_total (reported_few s),
+            s.in_range_lem.opened,
+            sums_without,
+          )
 
 abbrev Sound : Period → Type 0
 Sound p = is_open p.status ≡ true → in_range p ≡ true
@@ -75,7 +96,7 @@ opening_sound : (p : Period) (o : Opening) → opening_row p o ≡ clear → Sou
 opening_sound p o e = λ q. opened_in_range o (opening_good p o e)
 
 day_sound : (p : Period) (d : DayInput) (room : ℕ) → day_row p d room ≡ clear → Sound (sized_period p d)
-day_sound p d room e = λ q. let (t, h) = passes_all p d room e in sized_in_range p d t h
+day_sound p d room e = λ q. sized_in_range p d (passes_all p d room e)
 
 not_open : (p : Period) → is_open p.status ≡ false → Sound p
 not_open p e q = absurd (true≢false (sym q ∙ e))

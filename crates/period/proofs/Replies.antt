@@ -1,26 +1,24 @@
 -- Replies by what the refusal table says: the rows that the code has tested are those of the call.
-use mathlib.Core.Path.{◌≡◌, refl, ap, ◌∙◌}
+use mathlib.Core.Path.{◌≡◌, refl, sym, ◌∙◌}
 use mathlib.Core.Bool.{Bool, true, false, not}
 use mathlib.Core.List.{List, [], ◌∷◌, flat_map}
-use Prim.Native.Nat.{ℕ, ◌+◌}
-use lib.Dec.{eqb}
+use Prim.Native.Nat.{ℕ}
+use native.Mathlib.Omega.{arith}
 use lib.ListN.{length}
-use borrow.Author.Tests.{ne_eqb}
-use Rattle.std.specs.Prelude.{Err}
+use Rattle.std.specs.Prelude.{Ok, Err}
 use Rattle.numbers.specs.Sums.{Σ}
 use Rattle.methodology.specs.declared.Refusal.{Refusal}
-use Rattle.methodology.specs.declared.Refusal.TheVariants.{OutOfTurn, BadOpening, BadLengths, NoLoss}
+use Rattle.methodology.specs.declared.Refusal.TheVariants.{OutOfTurn, BadOpening, BadLengths}
 use Rattle.methodology.specs.declared.Status.TheVariants.{Open}
 use Rattle.methodology.specs.declared.Opening.{Opening}
 use Rattle.methodology.specs.Account.{with_groups, DayInput}
-use Rattle.methodology.specs.Day.{total, dailies}
+use Rattle.methodology.specs.Day.{dailies}
 use Rattle.methodology.specs.Contribution.{funded, three}
-use Rattle.methodology.specs.Refusals.{Verdict, row◌when◌else◌, rows_of◌else◌, clear, is_open, bad_opening, bad_output, opening_refusal, day_rows, before_figures, day_refusal, closing_refusal}
-use Rattle.methodology.specs.Register.{accepted, refused_by}
+use Rattle.methodology.specs.Refusals.{Verdict, row◌when◌else◌, clear, is_open, bad_opening, bad_output, opening_refusal, day_rows, day_refusal, closing_refusal}
+use Rattle.methodology.specs.Register.{if_accepted, accepted, refused_by}
 use Rattle.validation.specs.Slices.{in_places}
 use Rattle.period.specs.declared.Period.{Period}
-use Rattle.period.specs.Calls.{without_days, held_by, status_of, opening_row, OpeningMeets, output_row, accounts_brought, day_row, reported_by, with_accrued, sized_period, DayMeets, closing_row, sums_held, charge_by, closed_period, ClosingMeets}
-use Rattle.period.proofs.ByFields.{by_fields}
+use Rattle.period.specs.Calls.{without_days, held_by, status_of, opening_row, OpeningMeets, output_row, accounts_brought, total_by, day_row, reported_by, sized_period, DayMeets, closing_row, sums_held, charge_by, closed_period, ClosingMeets}
 
 -- an opening
 module _ (p : Period) (o : Opening) where
@@ -55,47 +53,42 @@ module _ (p : Period) (out : List ℕ) where
   unfolding closing_row closing_refusal output_row
   closing_accepted e funds after f w = record { answer = rw (e, f); period = rw e; buffer = rw (e, w) }
 
--- a day: the rows of its output, those of what it brings, and row 7
+-- a day: the rows of its output, and then those of what it brings
 module _ (p : Period) (d : DayInput) (room : ℕ) where
-  pub early_split : before_figures (status_of p) (held_by p) p.accrued.last d room ≡ rows_of output_row p 5 room else day_rows (held_by p) p.accrued.last d
-  unfolding before_figures output_row row◌when◌else◌ rows_of◌else◌
-  early_split = by (not (is_open (status_of p))) (bad_output (held_by p) room) (day_rows (held_by p) p.accrued.last d)
+  day_split :
+      let lent = output_row p 5 room in
+      day_row p d room ≡ if_accepted lent (day_rows (held_by p) p.accrued.last d) lent
+  unfolding day_row day_refusal output_row row◌when◌else◌
+  day_split = by (not (is_open (status_of p))) (bad_output (held_by p) room) (day_rows (held_by p) p.accrued.last d)
     where
       by : (a b : Bool) (rest : Verdict)
-          → row OutOfTurn when a else row BadLengths when b else rest ≡ rows_of row OutOfTurn when a else row BadLengths when b else clear else rest
+          → let lent = row OutOfTurn when a else row BadLengths when b else clear in
+          row OutOfTurn when a else row BadLengths when b else rest ≡ if_accepted lent rest lent
       by true b rest = refl
       by false true rest = refl
       by false false rest = refl
 
-  day_split : day_row p d room
-      ≡ rows_of rows_of output_row p 5 room else day_rows (held_by p) p.accrued.last d else row NoLoss when eqb (total (held_by p) (accounts_brought p d)) 0 else clear
-  unfolding day_row day_refusal
-  day_split = rw early_split
+  pub day_passes : day_row p d room ≡ clear → (output_row p 5 room ≡ clear) × (day_rows (held_by p) p.accrued.last d ≡ clear)
+  day_passes e = by (output_row p 5 room) (day_rows (held_by p) p.accrued.last d) (sym day_split ∙ e)
+    where
+      by : (lent brought : Verdict) → if_accepted lent brought lent ≡ clear → (lent ≡ clear) × (brought ≡ clear)
+      by (Ok _) brought e = (refl, e)
+      by (Err met) brought e = let z : ◌≡◌ {A = ℕ} 0 1 = cc in absurd (omega arith)
 
 module _ (p : Period) (d : DayInput) (out : List ℕ) where
   day_refused : (met : Refusal) → day_row p d (length out) ≡ Err met → DayMeets p d out (refused_by met) p out
   day_refused met e = record { answer = rw e; period = rw e; buffer = rw e }
 
   pub output_refused : (met : Refusal) → output_row p 5 (length out) ≡ Err met → DayMeets p d out (refused_by met) p out
-  unfolding rows_of◌else◌
   output_refused met e = day_refused met (day_split p d (length out) ∙ rw e)
 
   module _ (lent : output_row p 5 (length out) ≡ clear) where
     pub input_refused : (met : Refusal) → day_rows (held_by p) p.accrued.last d ≡ Err met → DayMeets p d out (refused_by met) p out
-    unfolding rows_of◌else◌
     input_refused met e = day_refused met (day_split p d (length out) ∙ rw (lent, e))
 
-    module _ (brought : day_rows (held_by p) p.accrued.last d ≡ clear) where
-      pub without_loss : total (held_by p) (accounts_brought p d) ≡ 0 → DayMeets p d out (refused_by NoLoss) p out
-      unfolding row◌when◌else◌ rows_of◌else◌
-      without_loss z = day_refused NoLoss (day_split p d (length out) ∙ rw (lent, brought, z))
-
-      pub day_accepted : ¬ (total (held_by p) (accounts_brought p d) ≡ 0) → {t reported : ℕ} {sums after : List ℕ}
-          → t ≡ total (held_by p) (accounts_brought p d) → reported ≡ reported_by p d → sums ≡ (sized_period p d).accrued.sums
-          → after ≡ dailies (held_by p) reported (accounts_brought p d)
-          → DayMeets p d out (accepted (t ∷ reported ∷ []))
-          (with_accrued p (record { last = d.terms.number; days = p.accrued.days + 1; highest = reported; sums = sums })) after
-      unfolding row◌when◌else◌ rows_of◌else◌
-      day_accepted h e f g w =
-          let none : day_row p d (length out) ≡ clear = day_split p d (length out) ∙ rw (lent, brought, ne_eqb _ _ h) in
-          record { answer = rw (none, e, f); period = rw none (ap (with_accrued p) (by_fields refl refl f g)); buffer = rw (none, w, f) }
+    pub day_accepted : day_rows (held_by p) p.accrued.last d ≡ clear → {t reported : ℕ} {left : Period} {after : List ℕ}
+        → t ≡ total_by p d → reported ≡ reported_by p d → left ≡ sized_period p d → after ≡ dailies (held_by p) reported (accounts_brought p d)
+        → DayMeets p d out (accepted (t ∷ reported ∷ [])) left after
+    day_accepted brought e f g w =
+        let none : day_row p d (length out) ≡ clear = day_split p d (length out) ∙ rw (lent, brought) in
+        record { answer = rw (none, e, f); period = rw (none, g); buffer = rw (none, w, f) }

@@ -1,9 +1,9 @@
 -- The period that calls have left is the register's, and each call says and writes what the register does.
 -- Every field is a function of what the register holds, `period_of`; so each call is one equation for the period after it.
-use mathlib.Core.Path.{◌≡◌, refl, sym, ap, ap₂, subst, ◌∙◌}
+use mathlib.Core.Path.{◌≡◌, refl, sym, ap, ap₂, ◌∙◌}
 use mathlib.Core.Bool.{Bool, true, false, cond}
 use mathlib.Core.List.{List, [], ◌∷◌, map, flat_map, map-map}
-use Prim.Native.Nat.{ℕ, suc, ◌+◌, ◌<◌, max}
+use Prim.Native.Nat.{ℕ, suc, ◌+◌, max}
 use native.Mathlib.Nat.{add_comm, zero-add}
 use native.Mathlib.Numerals.{add-one}
 use native.Mathlib.Omega.{arith}
@@ -19,23 +19,24 @@ use Rattle.methodology.specs.declared.Opening.{Opening}
 use Rattle.methodology.specs.Account.{with_groups, DayInput, Account, members, accounts}
 use Rattle.methodology.specs.Member.{loss}
 use Rattle.methodology.specs.Day.{total, own_max_eul, share, dailies}
-use Rattle.methodology.specs.Contribution.{KeptDay, reported_max_eul, highest, sum_of_shares, funded, three}
+use Rattle.methodology.specs.Contribution.{KeptDay, reported_max_eul, highest, counts, counted, sum_of_shares, funded, three}
 use Rattle.methodology.specs.declared.Status.{Status}
-use Rattle.methodology.specs.Refusals.{Verdict, clear, is_open, opening_refusal, before_figures, day_refusal, closing_refusal}
+use Rattle.methodology.specs.Refusals.{Verdict, clear, is_open, opening_refusal, day_refusal, closing_refusal}
 use Rattle.methodology.specs.Register.{Call, Register, start, last_number, refusal, accept, if_accepted, step, returned, written, Answer, accepted, answer_by, answer, buffer}
 use Rattle.methodology.proofs.SoFar.{reported_is_m, reported_more}
+use Rattle.methodology.proofs.Counted.{counted_cons, counted_skip, sum_cons, sum_skip}
+use Rattle.fund.specs.Shares.{plus_each}
 use Rattle.fund.proofs.Contributions.{are_contributions, is_total_funded}
 use Rattle.period.specs.declared.Period.{Period}
 use Rattle.period.specs.Registered.{sum_at, period_of}
 use Rattle.period.specs.Follows.{Reached, fresh, by_opening, by_day, by_closing, Good, Follows}
-use Rattle.period.specs.Calls.{fresh_period, with_accrued, held_by, status_of, opening_row, opened_period, OpeningMeets, accounts_brought, day_row, reported_by, sized_period, DayMeets, closing_row, sums_held, charge_by, closed_period, ClosingMeets}
+use Rattle.period.specs.Calls.{fresh_period, with_accrued, held_by, status_of, opening_row, opened_period, OpeningMeets, accounts_brought, total_by, day_row, reported_by, sized_period, DayMeets, closing_row, sums_held, charge_by, closed_period, ClosingMeets}
 use Rattle.period.proofs.ByFields.{by_fields}
-use Rattle.period.proofs.Sizing.{passes_all}
 use Rattle.period.proofs.Reach.{opening_passed, groups_back, status_counts}
 
 pub starts : Follows start fresh_period
-unfolding period_of highest greatest
-starts = record { is = refl; reached = fresh; good = record { groups_long = refl; members_few = omega arith; counted = tt } }
+unfolding period_of highest greatest counted
+starts = record { is = refl; reached = fresh; good = record { groups_long = refl; members_few = omega arith } }
 
 held_is : (g : Register) → Good g → held_by (period_of g) ≡ g.held
 unfolding period_of
@@ -94,7 +95,7 @@ open_alike f = status_counts f.reached ∙ ap (λ (p : Period). is_open p.status
 -- ---- opening
 
 no_sums : (o : Opening) → replicate 32 0 ≡ map (sum_at o []) (range_with_len 0 32)
-unfolding sum_of_shares Σ
+unfolding sum_of_shares counted Σ
 no_sums o = map_eq (λ i. 0) (sum_at o []) (range_with_len 0 32) (λ i m. by (ltb i o.n))
   where
     by : (b : Bool) → ◌≡◌ {A = ℕ} 0 (cond b 0 0)
@@ -106,14 +107,14 @@ unfolding opening_row refusal opening_refusal
 opening_row_lem f o = rw (open_alike f)
 
 opened_is : (g : Register) (o : Opening) → opened_period o ≡ period_of (accept g (Call.opening o))
-unfolding period_of accept highest greatest
+unfolding period_of accept highest greatest counted
 opened_is g o = ap (with_accrued (opened_period o)) (by_fields refl refl refl (no_sums o))
 
 opened_good : (g : Register) (p : Period) (o : Opening) → opening_row p o ≡ clear → Good (accept g (Call.opening o))
 unfolding accept
 opened_good g p o e =
     let l = opening_passed p o e in
-    record { groups_long = l.groups_long; members_few = l.members_few; counted = tt }
+    record { groups_long = l.groups_long; members_few = l.members_few }
 
 pub opening_follows : {g : Register} {p left : Period} {o : Opening} {said : Answer} → Follows g p → OpeningMeets p o said left
     → Follows (step g (Call.opening o)) left × (said ≡ answer g (Call.opening o))
@@ -132,7 +133,7 @@ held_by_lem {g} f = ap held_by f.is ∙ held_is g f.good
 -- of the status a day's rows ask whether it is open, and no more
 day_alike : (s t : Status) (o : Opening) (last : ℕ) (d : DayInput) (room : ℕ) → is_open s ≡ is_open t
     → day_refusal s o last d room ≡ day_refusal t o last d room
-unfolding day_refusal before_figures
+unfolding day_refusal
 day_alike s t o last d room e = rw e refl
 
 pub day_row_lem : {g : Register} {p : Period} → Follows g p → (d : DayInput) (room : ℕ) → day_row p d room ≡ refusal g (Call.day d room)
@@ -150,20 +151,32 @@ module _ (g : Register) (q : Good g) (d : DayInput) where
   abbrev kept : KeptDay
   kept = record { number = d.terms.number; accounts = accts }
 
-  -- the sums after it
+  -- D and the sums after it, with its shares where it counts
+  abbrev share_of : Opening → (i : ℕ) → ℕ
+  share_of o i = cond (ltb i g.held.n) (share (loss g.held.k accts (i + 1)) (total o accts)) 0
+
+  days_are : (t : Bool) → counts (total g.held accts) ≡ t
+      → cond t (length (counted g.held g.days) + 1) (length (counted g.held g.days)) ≡ length (counted g.held (kept ∷ g.days))
+  days_are true e = rw (counted_cons g.held kept g.days e) (omega arith)
+  days_are false e = rw (counted_skip g.held kept g.days e) refl
+
   added : (b : Bool) (x y : ℕ) → cond b x 0 + cond b y 0 ≡ cond b (y + x) 0
   added true x y = add_comm x y
   added false x y = refl
 
-  abbrev share_of : Opening → (i : ℕ) → ℕ
-  share_of o i = cond (ltb i g.held.n) (share (loss g.held.k accts (i + 1)) (total o accts)) 0
-
-  more_sums : map (λ i. get_or (map (sum_at g.held g.days) (range_with_len 0 32)) i 0 + share_of g.held i) (range_with_len 0 32)
-      ≡ map (sum_at g.held (kept ∷ g.days)) (range_with_len 0 32)
-  unfolding sum_of_shares Σ
-  more_sums =
+  sums_after : (t : Bool) → counts (total g.held accts) ≡ t
+      → let sums = map (sum_at g.held g.days) (range_with_len 0 32) in
+      cond t (plus_each sums (share_of g.held)) sums ≡ map (sum_at g.held (kept ∷ g.days)) (range_with_len 0 32)
+  sums_after true e =
       map_eq (λ i. get_or (map (sum_at g.held g.days) (range_with_len 0 32)) i 0 + share_of g.held i) (sum_at g.held (kept ∷ g.days)) (range_with_len 0 32)
-      (λ i m. rw (get_or-map-range_with_len (sum_at g.held g.days) 0 32 i i 0 (omega (arith, (mem_range 0 32 m).1)) (zero-add i)) (added (ltb i g.held.n) _ _))
+      (λ i m.
+      rw (
+        get_or-map-range_with_len (sum_at g.held g.days) 0 32 i i 0 (omega (arith, (mem_range 0 32 m).1)) (zero-add i),
+        sum_cons g.held kept g.days (i + 1) e,
+      )
+      (added (ltb i g.held.n) _ _))
+  sums_after false e =
+      map_eq (sum_at g.held g.days) (sum_at g.held (kept ∷ g.days)) (range_with_len 0 32) (λ i m. rw (sum_skip g.held kept g.days (i + 1) e) refl)
 
   -- what it reports: M of the days before, or its own where that is greater
   reported_is : reported_by (period_of g) d ≡ reported_max_eul g.held (kept ∷ g.days)
@@ -174,21 +187,18 @@ module _ (g : Register) (q : Good g) (d : DayInput) where
   sized_is : (room : ℕ) → sized_period (period_of g) d ≡ period_of (accept g (Call.day d room))
   unfolding period_of accept
   sized_is room =
+      let sums = map (sum_at g.held g.days) (range_with_len 0 32) in
       ap (with_accrued (period_of g))
-      (by_fields refl (add-one (length g.days))
+      (by_fields refl
+      (rw (held_is g q) (days_are (counts (total g.held accts)) refl))
       (reported_is ∙ reported_is_m g.held (kept ∷ g.days))
-      (ap (λ (o : Opening). map (λ i. get_or (map (sum_at g.held g.days) (range_with_len 0 32)) i 0 + share_of o i) (range_with_len 0 32)) (held_is g q) ∙ more_sums))
+      (ap (λ (o : Opening). cond (counts (total o accts)) (plus_each sums (share_of o)) sums) (held_is g q) ∙ sums_after (counts (total g.held accts)) refl))
 
-  sized_good : (room : ℕ) → 0 < total (held_by (period_of g)) (accounts_brought (period_of g) d) → Good (accept g (Call.day d room))
-  unfolding accept period_of
-  sized_good room t =
-      record {
-        groups_long = q.groups_long;
-        members_few = q.members_few;
-        counted = (rw (held_is g q) at t, q.counted);
-      }
+  sized_good : (room : ℕ) → Good (accept g (Call.day d room))
+  unfolding accept
+  sized_good room = record { groups_long = q.groups_long; members_few = q.members_few }
 
-  day_says : (room : ℕ) → total (held_by (period_of g)) (accounts_brought (period_of g) d) ∷ reported_by (period_of g) d ∷ []
+  day_says : (room : ℕ) → total_by (period_of g) d ∷ reported_by (period_of g) d ∷ []
       ≡ returned (accept g (Call.day d room)) (Call.day d room)
   unfolding period_of accept returned
   day_says room = rw (reported_is, held_is g q)
@@ -208,12 +218,11 @@ pub day_follows : {g : Register} {p left : Period} {d : DayInput} {before after 
 day_follows {g} {p} {d} {before} f m =
     let room = length before in
     let c = Call.day d room in
-    let same = day_row_lem f d room in
-    let positive : day_row p d room ≡ clear → 0 < total (held_by (period_of g)) (accounts_brought (period_of g) d) = λ e. subst (λ (p : Period). 0 < total (held_by p) (accounts_brought p d)) f.is (passes_all p d room e).1 in (
+    let same = day_row_lem f d room in (
       leads g c (day_row p d room) same f m.period (by_day f.reached m)
-          (λ e. (ap (λ (p : Period). sized_period p d) f.is ∙ sized_is g f.good d room, sized_good g f.good d room (positive e))),
+          (λ e. (ap (λ (p : Period). sized_period p d) f.is ∙ sized_is g f.good d room, sized_good g f.good d room)),
       tells g c (day_row p d room) same _ m.answer
-          (λ e. ap (λ (p : Period). total (held_by p) (accounts_brought p d) ∷ reported_by p d ∷ []) f.is ∙ day_says g f.good d room),
+          (λ e. ap (λ (p : Period). total_by p d ∷ reported_by p d ∷ []) f.is ∙ day_says g f.good d room),
       fills g c (day_row p d room) same _ before m.buffer
           (λ e. day_writes f d room),
     )
@@ -226,7 +235,7 @@ closing_row_lem f room = rw (open_alike f, f.is)
 
 closed_good : (g : Register) (room : ℕ) → Good g → Good (accept g (Call.closing room))
 unfolding accept
-closed_good g room q = record { groups_long = q.groups_long; members_few = q.members_few; counted = q.counted }
+closed_good g room q = record { groups_long = q.groups_long; members_few = q.members_few }
 
 closed_is : (g : Register) (room : ℕ) → closed_period (period_of g) ≡ period_of (accept g (Call.closing room))
 unfolding period_of accept
@@ -238,7 +247,7 @@ closing_figures p = p.accrued.days ∷ p.accrued.highest ∷ Σ (sums_held p) (�
 closing_says : (g : Register) → Good g → (room : ℕ) → closing_figures (period_of g) ≡ returned (accept g (Call.closing room)) (Call.closing room)
 unfolding period_of accept returned
 closing_says g q room =
-    ap (λ (funds : ℕ). length g.days ∷ highest g.held g.days ∷ funds ∷ []) (is_total_funded g.held g.days (period_of g).accrued.sums (sums_are g q))
+    ap (λ (funds : ℕ). length (counted g.held g.days) ∷ highest g.held g.days ∷ funds ∷ []) (is_total_funded g.held g.days (period_of g).accrued.sums (sums_are g q))
 
 closing_writes : (g : Register) → Good g → (room : ℕ)
     → flat_map (λ s. three (charge_by (period_of g) s)) (sums_held (period_of g)) ≡ written (accept g (Call.closing room)) (Call.closing room)

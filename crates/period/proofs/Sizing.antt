@@ -1,4 +1,4 @@
--- A day that no row before 7 refuses: what its figures ask for holds, and what the program found and wrote is the day's.
+-- A day that no row refuses: what its figures ask for holds, and what the program found and wrote is the day's.
 use mathlib.Core.Path.{◌≡◌, refl, sym, ap, ◌∙◌}
 use mathlib.Core.Bool.{Bool, true, false, cond}
 use mathlib.Core.List.{List, flat_map}
@@ -14,9 +14,8 @@ use Rattle.std.proofs.lemmas.List.Sums.{fails_before_first}
 use Rattle.numbers.proofs.Lists.{◌∈◌, by_index, map_eq, range_mem}
 use Rattle.methodology.specs.Account.{DayInput, Account}
 use Rattle.methodology.specs.Member.{loss}
-use Rattle.methodology.specs.Day.{total, scale, share, five, dailies}
+use Rattle.methodology.specs.Day.{scale, share, five, dailies}
 use Rattle.methodology.specs.Refusals.{clear, bad_amount, day_rows}
-use Rattle.methodology.proofs.Passed.{passed_rows, loss_stands}
 use Rattle.methodology.proofs.RowLimits.{accounts_long}
 use Rattle.quotient.specs.Ranges.{Loss, greatest_total}
 use Rattle.quotient.proofs.QuotientBounds.{share_le}
@@ -29,12 +28,12 @@ use Rattle.exposure.proofs.Bounds.{total_small}
 use Rattle.exposure.proofs.MaxTotal.{loss_le_total, max_le_total}
 use Rattle.exposure.proofs.Admitted.{admitted}
 use Rattle.exposure.proofs.Found as found
-use Rattle.fund.specs.Shares.{share_in, with_shares}
+use Rattle.fund.specs.Shares.{share_in, plus_each, with_shares}
 use Rattle.fund.proofs.Dailies.{Few, dailies_long, are_dailies, dailies_few, share_written}
 use Rattle.period.specs.declared.Period.{Period}
-use Rattle.period.specs.Calls.{held_by, status_of, output_row, accounts_brought, day_row, share_at, reported_by, sized_period}
+use Rattle.period.specs.Calls.{held_by, output_row, accounts_brought, total_by, day_row, share_at, reported_by, with_accrued, sized_period}
 use Rattle.period.proofs.InRange.{Ranged, held_opened, ready}
-use Rattle.period.proofs.Replies.{early_split}
+use Rattle.period.proofs.Replies.{day_passes}
 
 pub record Admits (p : Period) (d : DayInput) (room : ℕ) : Type 0 where
   pub in_range_lem : Ranged p
@@ -46,13 +45,8 @@ admits p d room e f =
     let r = ready p 5 room e in
     record { in_range_lem = r.in_range_lem; room_long = r.room_long; rows = passes (held_by p) p.accrued.last d f }
 
--- a day that no row refuses
-pub passes_all : (p : Period) (d : DayInput) (room : ℕ) → day_row p d room ≡ clear → Admits p d room × (0 < total (held_by p) (accounts_brought p d))
-unfolding day_row
-passes_all p d room e =
-    let (early, positive) = loss_stands (status_of p) (held_by p) p.accrued.last d room e in
-    let (lent, brought) = passed_rows (output_row p 5 room) (day_rows (held_by p) p.accrued.last d) (sym (early_split p d room) ∙ early) in
-    (admits p d room lent brought, positive)
+pub passes_all : (p : Period) (d : DayInput) (room : ℕ) → day_row p d room ≡ clear → Admits p d room
+passes_all p d room e = let (lent, brought) = day_passes p d room e in admits p d room lent brought
 
 -- what any day has that is admitted
 module _ {p : Period} {d : DayInput} {room : ℕ} (s : Admits p d room) where
@@ -73,7 +67,7 @@ module _ {p : Period} {d : DayInput} {room : ℕ} (s : Admits p d room) where
       by_index (λ a. bad_amount a ≡ false) (accounts_brought p d) no_account
       (λ i h. fails_before_first bad_amount (accounts_brought p d) i no_account (omega (arith, s.rows.amounts, accounts_long p.held.k d)))
 
-  pub total_few : total (held_by p) (accounts_brought p d) ≤ greatest_total
+  pub total_few : total_by p d ≤ greatest_total
   total_few =
       omega (arith, total_small (accounts_brought p d) good_amount (omega (arith, accounts_long p.held.k d, (sized (held_by p) d s.rows.input).few)) (held_by p))
 
@@ -81,32 +75,32 @@ module _ {p : Period} {d : DayInput} {room : ℕ} (s : Admits p d room) where
   pub reported_few : reported_by p d ≤ greatest_total
   reported_few = omega (arith, s.in_range_lem.bounded, max_le_total (held_by p) (accounts_brought p d), total_few)
 
-  pub written_few : 0 < total (held_by p) (accounts_brought p d) → AllByRecursion Few (dailies (held_by p) (reported_by p d) (accounts_brought p d))
-  written_few positive =
+  pub written_few : AllByRecursion Few (dailies (held_by p) (reported_by p d) (accounts_brought p d))
+  written_few =
       dailies_few (held_by p) (reported_by p d) (accounts_brought p d)
-      (λ m i. record { positive = positive; part = loss_le_total (held_by p) (accounts_brought p d) i; bounded = total_few })
+      (λ m i. record { part = loss_le_total (held_by p) (accounts_brought p d) i; bounded = total_few })
       reported_few
 
 -- a share of the whole is at most 10^12
-module _ (p : Period) (d : DayInput) (positive : 0 < total (held_by p) (accounts_brought p d)) where
+module _ (p : Period) (d : DayInput) (positive : 0 < total_by p d) where
   pub share_few : (i : ℕ) → share_at p d i ≤ scale
   unfolding share
   share_few i = by (ltb i p.held.n) refl
     where
-      by : (t : Bool) → ltb i p.held.n ≡ t → cond t (share (loss p.held.k (accounts_brought p d) (i + 1)) (total (held_by p) (accounts_brought p d))) 0 ≤ scale
+      by : (t : Bool) → ltb i p.held.n ≡ t → cond t (share (loss p.held.k (accounts_brought p d) (i + 1)) (total_by p d)) 0 ≤ scale
       by true q =
           let here : i < p.held.n = ltb-true i p.held.n q in
           share_le scale _ _ positive (loss_le_total (held_by p) (accounts_brought p d) {m = i + 1} (range_mem 1 p.held.n (omega arith) (omega arith)))
       by false q = omega arith
 
--- the shares of a day, in what it writes by whichever Max EUL
-module _ (p : Period) (d : DayInput) (Max : ℕ) where
+-- the shares of a day with losses, in what it writes by whichever Max EUL
+module _ (p : Period) (d : DayInput) (some : ¬ (total_by p d ≡ 0)) (Max : ℕ) where
   written_at : (i : ℕ) (t : Bool) → ltb i p.held.n ≡ t
       → cond t (share_in (dailies (held_by p) Max (accounts_brought p d)) i) 0
-      ≡ cond t (share (loss p.held.k (accounts_brought p d) (i + 1)) (total (held_by p) (accounts_brought p d))) 0
+      ≡ cond t (share (loss p.held.k (accounts_brought p d) (i + 1)) (total_by p d)) 0
   written_at i true q =
-      share_written (held_by p) Max (accounts_brought p d) i (ltb-true i p.held.n q)
-      ∙ ap (λ (m : ℕ). share (loss p.held.k (accounts_brought p d) m) (total (held_by p) (accounts_brought p d))) (add_comm 1 i)
+      share_written (held_by p) Max (accounts_brought p d) some i (ltb-true i p.held.n q)
+      ∙ ap (λ (m : ℕ). share (loss p.held.k (accounts_brought p d) m) (total_by p d)) (add_comm 1 i)
   written_at i false q = refl
 
   share_at_lem : (i : ℕ) → cond (ltb i p.held.n) (share_in (dailies (held_by p) Max (accounts_brought p d)) i) 0 ≡ share_at p d i
@@ -114,14 +108,13 @@ module _ (p : Period) (d : DayInput) (Max : ℕ) where
 
 -- what the program found of a day that is admitted
 module _ {p : Period} {d : DayInput} {room : ℕ} (s : Admits p d room) {r : Figures} (are : FiguresAre p.held d r) where
-  pub total_is : r.losses.total ≡ total (held_by p) (accounts_brought p d)
+  pub total_is : r.losses.total ≡ total_by p d
   total_is = found.total_is (held_by p) (accounts_brought p d) r.losses are.losses
 
-  pub parts : ¬ (r.losses.total ≡ 0) → (i : ℕ) → i < length (take p.held.n r.losses.each) → Loss (get_or (take p.held.n r.losses.each) i 0) r.losses.total
-  parts h i l =
+  pub parts : (i : ℕ) → i < length (take p.held.n r.losses.each) → Loss (get_or (take p.held.n r.losses.each) i 0) r.losses.total
+  parts i l =
       let k : i < p.held.n = omega (arith, length-take p.held.n r.losses.each) in
       record {
-        positive = omega arith;
         part = rw (get_or-take p.held.n r.losses.each i 0 k) (found.loss_part (held_by p) (accounts_brought p d) r.losses are.losses i k);
         bounded = omega (arith, total_is, total_few s);
       }
@@ -133,6 +126,11 @@ module _ {p : Period} {d : DayInput} {room : ℕ} (s : Admits p d room) {r : Fig
   pub reported_is : {reported : ℕ} → reported ≡ max p.accrued.highest r.top → reported ≡ reported_by p d
   reported_is e = e ∙ ap (max p.accrued.highest) are.top
 
+  -- the period that it leaves where it has no losses
+  pub leaves_none : r.losses.total ≡ 0 → {reported : ℕ} → reported ≡ reported_by p d
+      → with_accrued p (record { last = d.terms.number; days = p.accrued.days; highest = reported; sums = p.accrued.sums }) ≡ sized_period p d
+  leaves_none none told = rw (sym total_is ∙ none, told) refl
+
   -- what it wrote, by some Max EUL
   module _ (Max : ℕ) {out : List ℕ} (wrote : out ≡ flat_map (λ e. five e Max r.losses.total) (take p.held.n r.losses.each)) where
     pub out_is : out ≡ dailies (held_by p) Max (accounts_brought p d)
@@ -141,11 +139,21 @@ module _ {p : Period} {d : DayInput} {room : ℕ} (s : Admits p d room) {r : Fig
     pub out_long : length out ≡ 5 * p.held.n
     out_long = ap length out_is ∙ dailies_long (held_by p) Max (accounts_brought p d)
 
-    pub shares_few : ¬ (r.losses.total ≡ 0) → (i : ℕ) → i < p.held.n → share_in out i ≤ scale
-    shares_few some i h =
-        let positive : 0 < total (held_by p) (accounts_brought p d) = omega (arith, total_is) in
-        rw out_is (rw (sym (share_at_lem p d Max i), lt-ltb i p.held.n h) at (share_few p d positive i))
+    -- where it has losses
+    module _ (some : 0 < r.losses.total) where
+      positive : 0 < total_by p d
+      positive = omega (arith, total_is)
 
-    -- the sums that take its shares in are those that the accounts give
-    pub sums_are : {sums : List ℕ} → sums ≡ with_shares p.accrued.sums p.held.n out → sums ≡ (sized_period p d).accrued.sums
-    sums_are e = e ∙ rw out_is (map_eq _ _ (range_with_len 0 32) (λ i m. ap (λ (x : ℕ). get_or p.accrued.sums i 0 + x) (share_at_lem p d Max i)))
+      pub shares_few : (i : ℕ) → i < p.held.n → share_in out i ≤ scale
+      shares_few i h = rw out_is (rw (sym (share_at_lem p d (λ none. omega (arith, positive)) Max i), lt-ltb i p.held.n h) at (share_few p d positive i))
+
+      -- the sums that take its shares in are those that the accounts give
+      sums_more : with_shares p.accrued.sums p.held.n out ≡ plus_each p.accrued.sums (share_at p d)
+      sums_more =
+          rw out_is
+          (map_eq _ _ (range_with_len 0 32) (λ i m. ap (λ (x : ℕ). get_or p.accrued.sums i 0 + x) (share_at_lem p d (λ none. omega (arith, positive)) Max i)))
+
+      -- and the period that it leaves
+      pub leaves_some : {reported : ℕ} → reported ≡ reported_by p d → {sums : List ℕ} → sums ≡ with_shares p.accrued.sums p.held.n out
+          → with_accrued p (record { last = d.terms.number; days = p.accrued.days + 1; highest = reported; sums = sums }) ≡ sized_period p d
+      leaves_some told e = rw (lt-ltb 0 (total_by p d) positive, told, e ∙ sums_more) refl

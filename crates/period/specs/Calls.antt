@@ -13,7 +13,7 @@ use Rattle.methodology.specs.declared.DayTerms.{DayTerms}
 use Rattle.methodology.specs.Account.{no_opening, DayInput, Account, accounts}
 use Rattle.methodology.specs.Member.{loss}
 use Rattle.methodology.specs.Day.{total, own_max_eul, scale, share, dailies}
-use Rattle.methodology.specs.Contribution.{charge, funded, three}
+use Rattle.methodology.specs.Contribution.{counts, charge, funded, three}
 use Rattle.methodology.specs.Refusals.{Verdict, clear, row◌when◌else◌, is_open, bad_opening, opening_refusal, day_refusal, closing_refusal}
 use Rattle.methodology.specs.Register.{if_accepted, Answer, answer_by}
 use Rattle.quotient.specs.Ranges.{greatest_total}
@@ -77,38 +77,42 @@ output_row p width room = row OutOfTurn when not (is_open (status_of p)) else ro
 abbrev pub accounts_brought : Period → DayInput → List Account
 accounts_brought p d = accounts p.held.k d
 
+-- its T
+abbrev pub total_by : Period → DayInput → ℕ
+total_by p d = total (held_by p) (accounts_brought p d)
+
 unfoldable pub day_row : Period → DayInput → (room : ℕ) → Verdict
 day_row p d room = day_refusal (status_of p) (held_by p) p.accrued.last d room
 
--- what an accepted day adds to the sum in place i: member i + 1's share
+-- what a day that counts adds to the sum in place i: member i + 1's share
 abbrev pub share_at : Period → DayInput → (i : ℕ) → ℕ
 share_at p d i =
-    let accts = accounts_brought p d in
-    cond (ltb i p.held.n) (share (loss p.held.k accts (i + 1)) (total (held_by p) accts)) 0
+    cond (ltb i p.held.n) (share (loss p.held.k (accounts_brought p d) (i + 1)) (total_by p d)) 0
 
 -- The Max EUL that an accepted day reports: M of the days before it, or its own where that is greater (document 02, Change 3).
 abbrev pub reported_by : Period → DayInput → ℕ
 reported_by p d = max p.accrued.highest (own_max_eul (held_by p) (accounts_brought p d))
 
--- what a period's days come to with one more: the last accepted day number, D and the sums take it in, and M is what it reports
-abbrev pub taken_in : Accrued → DayTerms → (reported : ℕ) → (share : (i : ℕ) → ℕ) → Accrued
-taken_in a terms reported share =
+-- What a period's days come to with one more: the last accepted day number is its own, M is what it reports, and D and the sums take it in
+-- where it counts (document 02, Change 4).
+abbrev pub taken_in : Accrued → DayTerms → (total reported : ℕ) → (share : (i : ℕ) → ℕ) → Accrued
+taken_in a terms total reported share =
     record {
       last = terms.number;
-      days = a.days + 1;
+      days = cond (counts total) (a.days + 1) a.days;
       highest = reported;
-      sums = plus_each a.sums share;
+      sums = cond (counts total) (plus_each a.sums share) a.sums;
     }
 
 -- the period after it
 abbrev pub sized_period : Period → DayInput → Period
-sized_period p d = with_accrued p (taken_in p.accrued d.terms (reported_by p d) (share_at p d))
+sized_period p d = with_accrued p (taken_in p.accrued d.terms (total_by p d) (reported_by p d) (share_at p d))
 
 -- A day "returns T and Max EUL" and writes "5 numbers a member". A refused one leaves the period and the buffer as before.
 pub record DayMeets (p : Period) (d : DayInput) (before : List ℕ) (said : Answer) (left : Period) (after : List ℕ) : Type 0 where
   pub answer :
       said
-      ≡ answer_by (day_row p d (length before)) (total (held_by p) (accounts_brought p d) ∷ reported_by p d ∷ [])
+      ≡ answer_by (day_row p d (length before)) (total_by p d ∷ reported_by p d ∷ [])
   pub period : left ≡ if_accepted (day_row p d (length before)) (sized_period p d) p
   pub buffer : after ≡ if_accepted (day_row p d (length before)) (dailies (held_by p) (reported_by p d) (accounts_brought p d)) before
 

@@ -3,7 +3,6 @@ use Rattle.std.specs.Prelude.{List, ◌≡◌, ℕ, ◌≤◌, length}
 use Rattle.methodology.specs.declared.Opening.{Opening}
 use Rattle.methodology.specs.Account.{DayInput}
 use Rattle.methodology.specs.Register.{Register, Answer}
-use Rattle.fund.specs.Counted.{Counted}
 use Rattle.period.specs.declared.Period.{Period}
 use Rattle.period.specs.Calls.{fresh_period, OpeningMeets, DayMeets, ClosingMeets}
 use Rattle.period.specs.Registered.{period_of}
@@ -19,7 +18,6 @@ pub data Reached : Period → Type 0 where
 pub record Good (g : Register) : Type 0 where
   pub groups_long : length g.held.groups ≡ g.held.n
   pub members_few : g.held.n ≤ 32
-  pub counted : Counted g.held g.days
 
 -- a register, and the period that the same calls have left
 pub record Follows (g : Register) (p : Period) : Type 0 where

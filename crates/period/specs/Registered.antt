@@ -2,7 +2,7 @@
 use Rattle.std.specs.Prelude.{cond, List, map, ℕ, ◌+◌, ltb, length}
 use Rattle.std.specs.List.{range_with_len}
 use Rattle.methodology.specs.declared.Opening.{Opening}
-use Rattle.methodology.specs.Contribution.{KeptDay, highest, sum_of_shares}
+use Rattle.methodology.specs.Contribution.{KeptDay, highest, counted, sum_of_shares}
 use Rattle.methodology.specs.Register.{Register, last_number}
 use Rattle.validation.specs.Slices.{in_places}
 use Rattle.period.specs.declared.Accrued.{Accrued}
@@ -17,7 +17,7 @@ abbrev pub accrued_over : Opening → List KeptDay → Accrued
 accrued_over o days =
     record {
       last = last_number days;
-      days = length days;
+      days = length (counted o days);
       highest = highest o days;
       sums = map (sum_at o days) (range_with_len 0 32);
     }

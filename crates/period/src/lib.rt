@@ -22,7 +22,8 @@ pub struct Period {
 }
 
 // What the days accepted since the last accepted opening come to: `last` is the last accepted day number, `days` is D, `highest` is M, and
-// member i + 1 has the sum of its shares in place i; past member n stands 0. Before a day all are 0, as document 01 has them.
+// member i + 1 has the sum of its shares in place i; past member n stands 0. Before a day all are 0, as document 01 has them. D and the sums
+// leave days without losses out (document 02, Change 4).
 #[derive(Clone, Copy)]
 pub struct Accrued {
     last: u64,
@@ -161,7 +162,8 @@ impl Period {
         Ok(())
     }
 
-    // What `day` does to a period: it takes in the day's number, the Max EUL that it reports, which M is then, and the shares that it wrote.
+    // What `day` does to a period: it takes in the day's number, the Max EUL that it reports, which M is then, and, where it has losses, the day
+    // itself and the shares that it wrote.
     fn size(&mut self, day: &Day, out: &mut [u64]) -> Result<DayReturns, Refusal>
         ensures { DayMeets self.old (day_brought day.now) out.old (answer_of day_returned result) self.new out.new }
     {
@@ -169,18 +171,15 @@ impl Period {
         validation::day_rows(self.held, self.accrued.last, day)?;
         let figures = exposure::day::day_figures(self.held, day);
         let total = figures.losses.total;
-        if total == 0 {
-            return Err(Refusal::NoLoss);
-        }
         let n = self.held.n as usize;
         let reported = self.accrued.highest.max(figures.top); // the highest so far
         fund::write_dailies(&figures.losses.each[..n], reported, total, out);
-        self.accrued = Accrued {
-            last: day.terms.number,
-            days: self.accrued.days + 1,
-            highest: reported,
-            sums: fund::with_shares(self.accrued.sums, n, out),
-        };
+        self.accrued.last = day.terms.number;
+        self.accrued.highest = reported;
+        if total > 0 {
+            self.accrued.days += 1;
+            self.accrued.sums = fund::with_shares(self.accrued.sums, n, out);
+        }
         Ok(DayReturns {
             total,
             max: reported,

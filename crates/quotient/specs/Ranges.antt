@@ -1,5 +1,5 @@
 -- The ranges in which the quotients of a day and of a month fit in 64 bits, and their products in 128.
-use Rattle.std.specs.Prelude.{ℕ, ◌*◌, ◌<◌, ◌≤◌}
+use Rattle.std.specs.Prelude.{ℕ, ◌*◌, ◌≤◌}
 use Rattle.methodology.specs.Day.{scale}
 use Rattle.methodology.specs.Refusals.{limit}
 
@@ -7,9 +7,8 @@ use Rattle.methodology.specs.Refusals.{limit}
 abbrev pub greatest_total : ℕ
 greatest_total = 256 * 3 * limit
 
--- a loss e in the total t of a day
+-- a loss e in the total t of a day, which may be without losses
 pub record Loss (e t : ℕ) : Type 0 where
-  pub positive : 0 < t
   pub part : e ≤ t
   pub bounded : t ≤ greatest_total
 

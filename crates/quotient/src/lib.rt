@@ -12,7 +12,7 @@ pub const SCALE: u64 = 1_000_000_000_000;
 // The share of a loss e in the total t. `Loss`, and in `daily` a bound of Max EUL, are asked for and no struct has them: it would be taken apart
 // again in each body.
 pub fn share(e: u64, t: u64) -> u64
-    requires { Loss e t }
+    requires { Loss e t × (0 < t) }
     ensures { result ≡ ceil_div (e * scale) t }
 {
     (u128::from(e) * u128::from(SCALE)).div_ceil(u128::from(t)) as u64
@@ -28,7 +28,7 @@ pub struct Cents {
 
 // The figures for a loss e in the total t, where Max EUL is max, which need not be at most t: e is a part of t, so e * max / t is at most max.
 pub fn daily(e: u64, max: u64, t: u64) -> Cents
-    requires { Loss e t × (max ≤ greatest_total) }
+    requires { Loss e t × (max ≤ greatest_total) × (0 < t) }
     ensures { (result.value ≡ round_div (100 * e * max) t) × (result.reserve ≡ round_div (110 * e * max) t) × (result.estimate ≡ round_div (220 * e * max) t) }
 {
     let product = u128::from(e) * u128::from(max);

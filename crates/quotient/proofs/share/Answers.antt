@@ -6,4 +6,4 @@ use Rattle.quotient.proofs.DivCeil.{div_ceil_is}
 use Rattle.quotient.proofs.share.Goals as goal
 
 pub returns : goal.returns
-returns c = grind (arith, div_ceil_is (c.args.e * scale) c.args.t c.requires.positive)
+returns c = grind (arith, div_ceil_is (c.args.e * scale) c.args.t c.requires.1)
