@@ -13,9 +13,8 @@ use Rattle.numbers.proofs.Rows.{rows_at, rows_length}
 use Rattle.numbers.proofs.Sums.{Σ-eq}
 use Rattle.methodology.specs.declared.Opening.{Opening}
 use Rattle.methodology.specs.Account.{members}
-use Rattle.methodology.specs.Contribution.{KeptDay, highest, raw, funded, shortfall, allowance, three, contributions, total_funded}
+use Rattle.methodology.specs.Contribution.{KeptDay, highest, counted, raw, funded, shortfall, allowance, three, contributions, total_funded}
 use Rattle.methodology.specs.Register.{Call, Register, returned, written, accepted}
-use Rattle.fund.specs.Counted.{Counted}
 use Rattle.fund.proofs.Cover.{exact_proper, raw_least, raw_close, raws_least, raws_close, funded_sum}
 use Rattle.demand3.specs.Demand3.{raw_in, funded_in, Covers}
 
@@ -66,21 +65,21 @@ allowance_proper : (M : ℕ) → Proper (allowance M)
 unfolding allowance
 allowance_proper M = omega arith
 
--- g is the register as the closing leaves it; it has members, but it may have no days
-pub covers : (g : Register) (room : ℕ) → Counted g.held g.days → 0 < g.held.n
+-- g is the register as the closing leaves it; it has members, but it may have no day that counts
+pub covers : (g : Register) (room : ℕ) → 0 < g.held.n
     → Covers g (accepted (returned g (Call.closing room))) (written g (Call.closing room))
 unfolding returned written
-covers g room c some =
+covers g room some =
     let o = g.held in
     let days = g.days in
     record {
       long = contributions_long o days;
-      returns = ap (λ (funds : ℕ). accepted (length days ∷ highest o days ∷ funds ∷ [])) (sym (fundeds_are o days));
-      proper = λ m low high. exact_proper o days c m;
+      returns = ap (λ (funds : ℕ). accepted (length (counted o days) ∷ highest o days ∷ funds ∷ [])) (sym (fundeds_are o days));
+      proper = λ m low high. exact_proper o days m;
       allowed = allowance_proper (highest o days);
-      at_least = λ m low high. rw (raw_is o days m low high) (raw_least o days c m);
-      below = λ m low high. rw (raw_is o days m low high) (raw_close o days c m);
-      all_at_least = rw (raws_are o days) (raws_least o days c);
-      all_below = rw (raws_are o days) (raws_close o days c some);
+      at_least = λ m low high. rw (raw_is o days m low high) (raw_least o days m);
+      below = λ m low high. rw (raw_is o days m low high) (raw_close o days m);
+      all_at_least = rw (raws_are o days) (raws_least o days);
+      all_below = rw (raws_are o days) (raws_close o days some);
       excess = excess_is o days;
     }

@@ -12,7 +12,7 @@ use Rattle.methodology.specs.Register.{Call, Register, refusal, accept, if_accep
 use Rattle.methodology.proofs.Passed.{step_clear, either}
 use Rattle.period.specs.declared.Period.{Period}
 use Rattle.period.specs.Calls.{held_by}
-use Rattle.period.specs.Follows.{Good, Follows}
+use Rattle.period.specs.Follows.{Follows}
 use Rattle.period.proofs.InRange.{held_opened, closable}
 use Rattle.period.proofs.Simulation.{held_by_lem, closing_row_lem, opening_follows, day_follows, closing_follows}
 use Rattle.demand3.specs.Made.{Asked, Made, call_of, Meets, MadeOn}
@@ -33,14 +33,14 @@ some_members {g} {p} f room e =
     let held : held_by p ≡ (step g (Call.closing room)).held = held_by_lem f ∙ sym left in
     subst (λ (o : Opening). 0 < o.n) held (omega (arith, limits.members_some))
 
-closes : {g : Register} {p : Period} → Follows g p → (c : Made) → Agrees g c → Good (step g (call_of c.asked)) → AtClosing g c
+closes : {g : Register} {p : Period} → Follows g p → (c : Made) → Agrees g c → AtClosing g c
 unfolding answer buffer
-closes {g} f c a q out is e =
+closes {g} f c a out is e =
     let k = Call.closing (length out) in
     let passes : refusal g k ≡ clear = rw is at e in
     let said : c.answer ≡ accepted (returned (step g k) k) = a.answer ∙ rw (is, passes) in
     let wrote : c.after ≡ written (step g k) k = a.buffer ∙ rw (is, passes) in
-    rw (said, wrote, is) (covers (step g k) (length out) (rw is at q.counted) (some_members f (length out) passes))
+    rw (said, wrote, is) (covers (step g k) (length out) (some_members f (length out) passes))
 
 -- one call, which the register follows
 pub agrees : {g : Register} {p : Period} → Follows g p → (a : Asked) (said : Answer) (left : Period) (after : List ℕ) → Meets p a said left after
@@ -59,7 +59,7 @@ pub one : {g : Register} {p : Period} → Follows g p → (c : Made) → Meets p
     → Follows (step g (call_of c.asked)) c.period × Agrees g c × AtClosing g c
 one {g} f c m =
     let (f', a) = agrees f c.asked c.answer c.period c.after m in
-    (f', a, closes f c a f'.good)
+    (f', a, closes f c a)
 
 pub holds : {g : Register} {p : Period} → Follows g p → (cs : List Made) → MadeOn p cs → Holds g cs
 holds f [] m = tt

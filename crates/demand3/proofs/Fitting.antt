@@ -3,7 +3,7 @@
 use mathlib.Core.Path.{◌≡◌, refl, sym, ap, subst, ◌∙◌}
 use mathlib.Core.Bool.{true, false}
 use mathlib.Core.List.{List, [], ◌∷◌, flat_map}
-use Prim.Native.Nat.{ℕ, ◌+◌, ◌*◌, ◌≤◌, ◌<◌}
+use Prim.Native.Nat.{ℕ, ◌+◌, ◌*◌, ◌≤◌}
 use native.Mathlib.Omega.{arith}
 use lib.ListN.{length, get_or, replicate}
 use lib.Seq.{length-take-le}
@@ -19,11 +19,11 @@ use Rattle.methodology.specs.RowNumbers.{row_number, row_index}
 use Rattle.methodology.specs.declared.Refusal.TheVariants.{BadOpening, OutOfTurn}
 use Rattle.methodology.specs.declared.Opening.{Opening}
 use Rattle.methodology.specs.Account.{no_opening, DayInput}
-use Rattle.methodology.specs.Day.{total, dailies}
-use Rattle.methodology.specs.Contribution.{funded, unfunded, three}
+use Rattle.methodology.specs.Day.{dailies}
+use Rattle.methodology.specs.Contribution.{counts, funded, unfunded, three}
 use Rattle.methodology.specs.Refusals.{Verdict, clear, is_open, bad_opening, opening_refusal}
 use Rattle.methodology.specs.Register.{Answer, refused_with, answer_by}
-use Rattle.methodology.proofs.Passed.{passed, either}
+use Rattle.methodology.proofs.Passed.{passed, either, by_test}
 use Rattle.methodology.proofs.RowLimits.{at_most_9, row_occurs, Few as IndexFew, RowFew, opening_few, day_few, closing_few}
 use Rattle.quotient.specs.Ranges.{greatest_total, Charge}
 use Rattle.validation.specs.Slices.{in_places}
@@ -32,7 +32,7 @@ use Rattle.period.specs.declared.Period.{Period}
 use Rattle.period.specs.declared.DayReturns.{DayReturns}
 use Rattle.period.specs.declared.ClosingReturns.{ClosingReturns}
 use Rattle.period.specs.Reading.{answer_of, opening_returned, day_returned, closing_returned}
-use Rattle.period.specs.Calls.{fresh_period, held_by, in_range, status_of, opening_row, opened_period, accounts_brought, day_row, share_at, reported_by, sized_period, closing_row, sums_held, charge_by, closed_period}
+use Rattle.period.specs.Calls.{fresh_period, held_by, in_range, status_of, opening_row, opened_period, accounts_brought, total_by, day_row, share_at, reported_by, sized_period, closing_row, sums_held, charge_by, closed_period}
 use Rattle.fund.proofs.RawCharge.{charge_le}
 use Rattle.fund.proofs.Dailies.{Few, dailies_long}
 use Rattle.period.proofs.InRange.{ranged, held_opened, charges, Ready, closable}
@@ -63,13 +63,12 @@ indexed P xs h = mem_every P xs (by_index P xs 0 (λ i l. h i))
 
 -- ---- a day that is accepted
 
-dailies_fit : (p : Period) (d : DayInput) (room : ℕ) → Admits p d room × (0 < total (held_by p) (accounts_brought p d))
+dailies_fit : (p : Period) (d : DayInput) (room : ℕ) → Admits p d room
     → AllByRecursion Fits64 (dailies (held_by p) (reported_by p d) (accounts_brought p d))
-dailies_fit p d room (s, t) = every_weaken Few Fits64 (λ x few. omega arith) (dailies (held_by p) (reported_by p d) (accounts_brought p d)) (written_few s t)
+dailies_fit p d room s = every_weaken Few Fits64 (λ x few. omega arith) (dailies (held_by p) (reported_by p d) (accounts_brought p d)) (written_few s)
 
-day_figures_fit : (p : Period) (d : DayInput) (room : ℕ) → Admits p d room × (0 < total (held_by p) (accounts_brought p d))
-    → AllByRecursion Fits64 (total (held_by p) (accounts_brought p d) ∷ reported_by p d ∷ [])
-day_figures_fit p d room (s, t) = (omega (arith, total_few s), (omega (arith, reported_few s), tt))
+day_figures_fit : (p : Period) (d : DayInput) (room : ℕ) → Admits p d room → AllByRecursion Fits64 (total_by p d ∷ reported_by p d ∷ [])
+day_figures_fit p d room s = (omega (arith, total_few s), (omega (arith, reported_few s), tt))
 
 -- ---- a closing that is accepted
 
@@ -140,7 +139,9 @@ narrow_sized p d e q =
             days = omega (arith, r.counted, r.month);
             highest = omega (arith, r.bounded);
             sums = indexed Fits64 (sized_period p d).accrued.sums (λ i. omega (arith, r.sums i, r.counted, r.month));
-            sums_long = length-map-range_with_len (λ i. get_or p.accrued.sums i 0 + share_at p d i) 0 32;
+            sums_long =
+                by_test (λ (sums : List ℕ). length sums ≡ 32) (counts (total_by p d)) _ p.accrued.sums
+                (λ e. length-map-range_with_len (λ i. get_or p.accrued.sums i 0 + share_at p d i) 0 32) (λ e. q.accrued.sums_long);
           };
     }
 
@@ -184,17 +185,17 @@ fits {p} q (Asked.opening o) said left after (m, none) =
     }
 fits {p} q (Asked.day d out) said left after m =
     let x = day_row p d (length out) in
-    let pass : x ≡ clear → Admits p d (length out) × (0 < total (held_by p) (accounts_brought p d)) = passes_all p d (length out) in
-    let figures : DayReturns = record { total = total (held_by p) (accounts_brought p d); max = reported_by p d } in
+    let pass : x ≡ clear → Admits p d (length out) = passes_all p d (length out) in
+    let figures : DayReturns = record { total = total_by p d; max = reported_by p d } in
     record {
       outcome = outcome_by x figures;
       of_outcome = m.answer ∙ outcome_says x day_returned figures;
       answer = rw m.answer (answer_fits x _ (day_row_few p d (length out)) (λ e. day_figures_fit p d (length out) (pass e)));
-      period = subst Narrow (sym m.period) (either Narrow x _ p (λ e. narrow_sized p d (sized_in_range p d (pass e).0 (pass e).1) q) q);
+      period = subst Narrow (sym m.period) (either Narrow x _ p (λ e. narrow_sized p d (sized_in_range p d (pass e)) q) q);
       buffer = λ b. subst (AllByRecursion Fits64) (sym m.buffer) (either (AllByRecursion Fits64) x _ out (λ e. dailies_fit p d (length out) (pass e)) b);
       long =
           ap length m.buffer
-          ∙ either (λ (l : List ℕ). length l ≡ length out) x _ out (λ e. dailies_long (held_by p) _ (accounts_brought p d) ∙ sym (pass e).0.room_long) refl;
+          ∙ either (λ (l : List ℕ). length l ≡ length out) x _ out (λ e. dailies_long (held_by p) _ (accounts_brought p d) ∙ sym (pass e).room_long) refl;
     }
 fits {p} q (Asked.closing out) said left after m =
     let x = closing_row p (length out) in

@@ -57,5 +57,5 @@ pub writes_few : {g : Register} → Kept g → (d : DayInput) (room : ℕ) → r
     → AllByRecursion Few (written (step g (Call.day d room)) (Call.day d room))
 writes_few {g} k d room passes =
     let call = Call.day d room in
-    let (s, positive) = passes_all k.period d room (day_row_lem k.follows d room ∙ passes) in
-    subst (AllByRecursion Few) (day_writes k.follows d room ∙ ap (λ (g : Register). written g call) (sym (step_clear g call passes))) (written_few s positive)
+    let s = passes_all k.period d room (day_row_lem k.follows d room ∙ passes) in
+    subst (AllByRecursion Few) (day_writes k.follows d room ∙ ap (λ (g : Register). written g call) (sym (step_clear g call passes))) (written_few s)

@@ -6,7 +6,7 @@ use Rattle.numbers.specs.Fractions.{Fraction, ◌over◌, whole, Proper, ◌⊕�
 use Rattle.methodology.specs.declared.Opening.{Opening}
 use Rattle.methodology.specs.declared.Refusal.{Refusal}
 use Rattle.methodology.specs.Account.{members}
-use Rattle.methodology.specs.Contribution.{highest, exact_charge, allowance, shortfall}
+use Rattle.methodology.specs.Contribution.{highest, counted, exact_charge, allowance, shortfall}
 use Rattle.methodology.specs.Refusals.{clear}
 use Rattle.methodology.specs.Register.{Register, refusal, step, Answer, accepted, refused, refused_at, answer, buffer}
 use Rattle.period.specs.declared.Accrued.{Accrued}
@@ -48,8 +48,8 @@ exact_of g m = exact_charge g.held g.days m
 pub record Covers (g : Register) (said : Answer) (out : List ℕ) : Type 0 where
   -- three numbers a member, and nothing else
   pub long : length out ≡ 3 * g.held.n
-  -- "The closing returns this M", with D before it and the total funded after it
-  pub returns : said ≡ accepted (length g.days ∷ highest_max g ∷ Σ (members g.held.n) (funded_in out) ∷ [])
+  -- "The closing returns this M", with D before it, the number of the days that count, and the total funded after it
+  pub returns : said ≡ accepted (length (counted g.held g.days) ∷ highest_max g ∷ Σ (members g.held.n) (funded_in out) ∷ [])
   pub proper : (m : ℕ) → 1 ≤ m → m ≤ g.held.n → Proper (exact_of g m)
   pub allowed : Proper (allowance (highest_max g))
   -- "Each raw charge is at least the member's exact charge [..] and less than that plus 1 dollar plus 1.1M/10^12."
