@@ -26,9 +26,8 @@ module _ {p left : Period} {d : DayInput} {before after : List ℕ} where
   pub day_sums : {figures : List ℕ} → DayMeets p d before (accepted figures) left after → (n : ℕ) → n ≤ 32 → AllByRecursion (λ x. x < 2 ^ 64) (totals n after)
   day_sums m n few =
       let clear = (is_clear (day_row p d (length before)) _ _ (sym m.answer)).0 in
-      let (s, positive) = passes_all p d (length before) clear in
       let writes : after ≡ dailies (held_by p) (reported_by p d) (accounts_brought p d) = m.buffer ∙ rw clear in
-      totals_fit n after few (subst (AllByRecursion Few) (sym writes) (written_few s positive))
+      totals_fit n after few (subst (AllByRecursion Few) (sym writes) (written_few (passes_all p d (length before) clear)))
 
   pub day_line : (met : Refusal) → DayMeets p d before (refused_by met) left after → (line : ℕ) → line_named line (row_index met) ≤ line + 257
   unfolding day_row

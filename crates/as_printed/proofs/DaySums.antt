@@ -1,21 +1,24 @@
 -- The sums under a day are those of e, share, value, reserve and estimate over its members: a member's numbers stand in its stretch of what
 -- the day wrote. So the first is T.
-use mathlib.Core.Path.{◌≡◌, ap, ◌∙◌}
-use mathlib.Core.List.{List, flat_map}
+use mathlib.Core.Path.{◌≡◌, refl, sym, ap, ◌∙◌}
+use mathlib.Core.Bool.{Bool, true, false}
+use mathlib.Core.List.{List, [], ◌∷◌, flat_map}
 use Prim.Native.Nat.{ℕ, ◌+◌, ◌-◌, ◌≤◌}
 use native.Mathlib.Omega.{arith}
+use lib.Dec.{eqb}
 use lib.ListN.{length, get_or}
+use borrow.Author.Tests.{eqb-true, eqb-false}
 use Rattle.std.proofs.lemmas.List.FromFn.{length-range_with_len, get_or-range_with_len}
 use Rattle.numbers.specs.Sums.{Σ}
 use Rattle.numbers.proofs.Lists.{mem_range}
 use Rattle.numbers.proofs.Rows.{rows_part}
-use Rattle.numbers.proofs.Sums.{Σ-eq}
+use Rattle.numbers.proofs.Sums.{Σ-eq, Σ-zero}
 use Rattle.methodology.specs.declared.Opening.{Opening}
 use Rattle.methodology.specs.Account.{Account, members}
 use Rattle.methodology.specs.Member.{loss}
-use Rattle.methodology.specs.Day.{total, five, dailies}
+use Rattle.methodology.specs.Day.{total, share, value, reserve, estimate, five, dailies}
 use Rattle.methodology.specs.Text.{stretch, column_sum, totals}
-use Rattle.fund.proofs.Dailies.{five_wide}
+use Rattle.fund.proofs.Dailies.{five_some, five_none, five_wide}
 use Rattle.as_printed.specs.AsPrinted.{sums_of_five}
 
 -- where each member's numbers are a row, its stretch is its row
@@ -42,10 +45,30 @@ module _ (o : Opening) (Max : ℕ) (accts : List Account) where
       Σ-eq (members o.n) _ _
       (λ m i. let (low, high) = mem_range 1 o.n i in ap (λ (l : List ℕ). get_or l c 0) (record_is m low (omega arith)))
 
+  -- a column of the five on a day without losses, and on one with losses
+  abbrev five_zeros : List ℕ
+  five_zeros = 0 ∷ 0 ∷ 0 ∷ 0 ∷ 0 ∷ []
+
+  column_none : T ≡ 0 → (c : ℕ) → get_or five_zeros c 0 ≡ 0 → column_sum 5 o.n (dailies o Max accts) c ≡ 0
+  column_none none c is = column_is c ∙ Σ-zero (members o.n) _ (λ m i. ap (λ (l : List ℕ). get_or l c 0) (five_none (e m) Max T none) ∙ is)
+
+  column_some : ¬ (T ≡ 0) → (c : ℕ)
+      → column_sum 5 o.n (dailies o Max accts) c
+      ≡ Σ (members o.n) (λ m. get_or (e m ∷ share (e m) T ∷ value (e m) Max T ∷ reserve (e m) Max T ∷ estimate (e m) Max T ∷ []) c 0)
+  column_some some c = column_is c ∙ Σ-eq (members o.n) _ _ (λ m i. ap (λ (l : List ℕ). get_or l c 0) (five_some (e m) Max T some))
+
   pub sums_are_of_five : totals o.n (dailies o Max accts) ≡ sums_of_five o Max accts
-  unfolding totals five
-  sums_are_of_five = rw (column_is 0, column_is 1, column_is 2, column_is 3, column_is 4)
+  unfolding totals
+  sums_are_of_five = by (eqb T 0) refl
+    where
+      by : (b : Bool) → eqb T 0 ≡ b → totals o.n (dailies o Max accts) ≡ sums_of_five o Max accts
+      by true q = let none = column_none (eqb-true T 0 q) in rw (q, none 0 refl, none 1 refl, none 2 refl, none 3 refl, none 4 refl)
+      by false q = let some = column_some (eqb-false T 0 q) in rw (q, some 0, some 1, some 2, some 3, some 4)
 
   pub first_sum_is_t : get_or (totals o.n (dailies o Max accts)) 0 0 ≡ total o accts
   unfolding total
-  first_sum_is_t = ap (λ (l : List ℕ). get_or l 0 0) sums_are_of_five
+  first_sum_is_t = by (eqb T 0) refl
+    where
+      by : (b : Bool) → eqb T 0 ≡ b → get_or (totals o.n (dailies o Max accts)) 0 0 ≡ T
+      by true q = ap (λ (l : List ℕ). get_or l 0 0) sums_are_of_five ∙ rw q (sym (eqb-true T 0 q))
+      by false q = ap (λ (l : List ℕ). get_or l 0 0) sums_are_of_five ∙ rw q refl

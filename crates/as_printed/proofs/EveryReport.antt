@@ -1,21 +1,22 @@
 -- Every report read back, by what it is made of: the lines of each accepted day add up, and what ends the report has no day's lines. With
 -- it the claim is whole: `as_printed`.
 use mathlib.Core.Path.{◌≡◌, refl, sym, ap, subst, ◌∙◌}
-use mathlib.Core.Bool.{false≢true}
+use mathlib.Core.Bool.{Bool, true, false, cond, false≢true}
 use mathlib.Core.List.{List, [], ◌∷◌, ◌++◌, map, flat_map, append-nil, append_assoc}
 use Prim.Native.Nat.{ℕ, ◌+◌, ◌*◌, ◌≤◌, ◌<◌, ◌^◌}
 use native.Mathlib.Nat.{add-zero}
 use native.Mathlib.Omega.{arith}
 use lib.ListN.{length, get_or, drop}
-use Rattle.std.specs.List.{AllByRecursion}
+use Rattle.std.specs.List.{filter, AllByRecursion}
 use Rattle.numbers.proofs.Lists.{every_append}
 use Rattle.methodology.specs.Account.{DayInput, accounts}
 use Rattle.methodology.specs.Day.{total}
-use Rattle.methodology.specs.Contribution.{KeptDay, reported_max_eul, highest}
+use Rattle.methodology.specs.Contribution.{KeptDay, reported_max_eul, highest, counts, counted}
 use Rattle.methodology.specs.Refusals.{clear}
 use Rattle.methodology.specs.Register.{Call, Register, start, refusal, accept, step, returned, written}
 use Rattle.methodology.specs.Text.{LF, bytes, same, split, fields, value_from, totals, report_of}
 use Rattle.methodology.proofs.Passed.{step_clear}
+use Rattle.methodology.proofs.Counted.{counted_nil, number_counted}
 use Rattle.methodology.proofs.SoFar.{reported_is_m, day_reports}
 use Rattle.methodology.proofs.Enough.{rises}
 use Rattle.methodology.proofs.Reports.{day_call, closing_call, sized_lines, Rest, a_day_lem, a_fund, a_refusal, Report, a_period, no_period, reports}
@@ -62,12 +63,18 @@ ends_so {before = before} {top = top} {s = s} e =
       all_told = rw whole (every_append Told lines (lines_of []) e.told ((λ is. absurd (false≢true is)), tt));
     }
 
+more_counted : (d : DayRead) (t : Bool) (before : ℕ) (ds : List DayRead)
+    → let kept = filter (λ d. counts d.T) ds in
+    cond t (before + 1) before + length kept ≡ before + length (cond t (d ∷ kept) kept)
+more_counted d true before ds = omega arith
+more_counted d false before ds = refl
+
 day_so : {n before top : ℕ} {s rest : List ℕ} {d : DayRead} → Shows s (lines_of_day d) → AddsUp n d → AllByRecursion Told (lines_of_day d) → top ≤ d.Max
-    → ReadsBack n (before + 1) d.Max rest → ReadsBack n before top (s ++ rest)
+    → ReadsBack n (cond (counts d.T) (before + 1) before) d.Max rest → ReadsBack n before top (s ++ rest)
 unfolding flat_map
 day_so {before = before} {rest = rest} {d = d} shows adds told higher more =
     let m = more.days_add_up in
-    let one_more : before + 1 + length m.days ≡ before + length (d ∷ m.days) = omega arith in
+    let one_more = more_counted d (counts d.T) before m.days in
     record {
       days_add_up =
           record {
@@ -145,25 +152,27 @@ module _ {g : Register} (k : Kept g) (d : DayInput) (passes : refusal g (day_cal
       }
 
 rest_back : {last : ℕ} {g : Register} {s : List ℕ} → last < 2 ^ 32 → Kept g → Rest last g s
-    → ReadsBack g.held.n (length g.days) (highest g.held g.days) s
+    → ReadsBack g.held.n (length (counted g.held g.days)) (highest g.held g.days) s
 unfolding accept returned
 rest_back {g = g} near k (a_day_lem {rest = rest} d passes more) =
     let call = day_call g d in
     let after = step g call in
     let members = ap (λ (x : Register). x.held.n) (step_clear g call passes) in
-    let count : length after.days ≡ length g.days + 1 = ap (λ (x : Register). length x.days) (step_clear g call passes) ∙ omega arith in
+    let D = length (counted g.held g.days) in
+    let count : length (counted after.held after.days) ≡ cond (counts (total g.held (accounts g.held.k d))) (D + 1) D =
+    ap (λ (x : Register). length (counted x.held x.days)) (step_clear g call passes) ∙ number_counted g.held _ g.days in
     let top = highest g.held g.days in
     let later = rest_back near (fit k d passes).kept more in
-    let reported = subst (λ (top : ℕ). ReadsBack after.held.n (length after.days) top rest) (sym (max_is_m k d passes)) later in
+    let reported = subst (λ (top : ℕ). ReadsBack after.held.n (length (counted after.held after.days)) top rest) (sym (max_is_m k d passes)) later in
     let counted = subst (λ (before : ℕ). ReadsBack after.held.n before (Max k d passes) rest) count reported in
-    subst (λ (n : ℕ). ReadsBack n (length g.days) top (sized_lines after d call ++ rest)) members
+    subst (λ (n : ℕ). ReadsBack n D top (sized_lines after d call ++ rest)) members
     (day_so (day_back k d passes) (day_sums k d passes) (no_refusal k d passes) (higher k d passes) counted)
 rest_back {g = g} near k (a_fund passes) =
     let call = closing_call g in
     let after = step g call in
     let fit = call_fits k call in
     let few = fit.kept.follows.good.members_few in
-    let first_two = ap (λ (x : Register). length x.days ∷ highest x.held x.days ∷ []) (step_clear g call passes) in
+    let first_two = ap (λ (x : Register). length (counted x.held x.days) ∷ highest x.held x.days ∷ []) (step_clear g call passes) in
     ends_so (fund_ends after.held.n (returned after call) (written after call) (fit.returned_fits passes) (fit.written_fits passes) few first_two)
 rest_back near k (a_refusal met line in-text) = ends_so (refusal_ends met line (omega arith))
 
@@ -173,10 +182,10 @@ report_back {n} {s = s} near (a_period o is few passes rest) =
     let after = step start (Call.opening o) in
     let members = ap (λ (x : Register). x.held.n) (step_clear start (Call.opening o) passes) ∙ is in
     let none : after.days ≡ [] = ap (λ (x : Register). x.days) (step_clear start (Call.opening o) passes) in
-    let m_is : highest after.held after.days ≡ 0 = rw none (highest_none after.held) in
+    let m_is : highest after.held after.days ≡ 0 = rw none (highest_none after.held [] (counted_nil after.held)) in
     let back = rest_back near (call_fits kept_first (Call.opening o)).kept rest in
-    let of-all = subst (λ (n : ℕ). ReadsBack n (length after.days) (highest after.held after.days) s) members back in
-    let counted = subst (λ (days : List KeptDay). ReadsBack n (length days) (highest after.held after.days) s) none of-all in
+    let of-all = subst (λ (n : ℕ). ReadsBack n (length (counted after.held after.days)) (highest after.held after.days) s) members back in
+    let counted = subst (λ (days : List KeptDay). ReadsBack n (length (counted after.held days)) (highest after.held after.days) s) none of-all in
     subst (λ (top : ℕ). ReadsBack n 0 top s) m_is counted
 report_back near (no_period met line in-text) = ends_so (refusal_ends met line (omega arith))
 

@@ -1,14 +1,16 @@
 -- Document 02, Change 1, of the report as a person reads it off its bytes: "Each sum equals that of the day's records as printed, and the
--- first equals T." `AsPrinted` is the claim. By Change 3 it says of the days' Max EULs too what is read off.
-use Rattle.std.specs.Prelude.{◌≡◌, true, false, not, ◌&&◌, ◌||◌, ℕ, ◌+◌, ◌*◌, ◌^◌, ◌≤◌, ◌<◌, eqb, ltb, length, get_or, take, drop}
+-- first equals T." `AsPrinted` is the claim. By Change 3 it says of the days' Max EULs too what is read off, and by Change 4 D
+-- leaves days without losses out.
+use Rattle.std.specs.Prelude.{◌≡◌, true, false, cond, not, ◌&&◌, ◌||◌, ℕ, ◌+◌, ◌*◌, ◌^◌, ◌≤◌, ◌<◌, eqb, ltb, length, get_or, take, drop}
 use mathlib.Core.List.{List, [], ◌∷◌, ◌++◌, map, flat_map}
 use Rattle.std.specs.Prelude.{Some}
-use Rattle.std.specs.List.{fold, list_any, AllByRecursion, range_with_len}
+use Rattle.std.specs.List.{fold, filter, list_any, AllByRecursion, range_with_len}
 use Rattle.numbers.specs.Sums.{Σ}
 use Rattle.methodology.specs.declared.Opening.{Opening}
 use Rattle.methodology.specs.Account.{DayInput, Account, members}
 use Rattle.methodology.specs.Member.{loss}
 use Rattle.methodology.specs.Day.{total, share, value, reserve, estimate, five, dailies}
+use Rattle.methodology.specs.Contribution.{counts}
 use Rattle.methodology.specs.Refusals.{clear}
 use Rattle.methodology.specs.Register.{Call, Register, start, refusal, step, returned, written}
 use Rattle.methodology.specs.Text.{LF, bytes, same, split, fields, is_digit, value_from, number_of, decimal, stretch, totals, day_lines, report_of}
@@ -85,9 +87,13 @@ NeverFall top (d ∷ ds) = (top ≤ d.Max) × NeverFall d.Max ds
 abbrev pub last_max : (top : ℕ) → List DayRead → ℕ
 last_max = fold (λ top d. d.Max)
 
--- A report of n members, or what is left of it after `before` accepted days, the last of which reported `top`, is its accepted days, each of
--- which adds up, and after them other lines. Where there is a fund its D is the number of the days, so that none is left out, and its M is
--- the Max EUL of the last, 0 without days.
+-- Change 4: how many of the days count, those whose T is above 0
+abbrev pub days_counted : List DayRead → ℕ
+days_counted days = length (filter (λ d. counts d.T) days)
+
+-- A report of n members, or what is left of it after accepted days of which `before` count and the last reported `top`, is its accepted
+-- days, each of which adds up, and after them other lines. Where there is a fund its D is the number of the days that count, so that none is
+-- left out, and its M is the Max EUL of the last day, 0 without days.
 pub record DaysAddUp (n before top : ℕ) (report : List ℕ) : Type 0 where
   pub days : List DayRead
   pub rest : List Line
@@ -95,7 +101,7 @@ pub record DaysAddUp (n before top : ℕ) (report : List ℕ) : Type 0 where
   pub add_up : AllByRecursion (AddsUp n) days
   pub never_fall : NeverFall top days
   pub no_day : AllByRecursion Other rest
-  pub all_there : AllByRecursion (Counts (before + length days) (last_max top days)) rest
+  pub all_there : AllByRecursion (Counts (before + days_counted days) (last_max top days)) rest
 
 -- ---- what was summed is what is read
 
@@ -126,17 +132,19 @@ pub record ReadAsSummed (g : Register) (d : DayInput) (call : Call) : Type 0 whe
 
 -- ---- Change 1
 
--- "the sums of e, share, value, reserve and estimate over that day's members", from its accounts and the Max EUL that it reports
+-- "the sums of e, share, value, reserve and estimate over that day's members", from its accounts and the Max EUL that it reports. On a day
+-- without losses each of these is 0 (Change 4).
 abbrev pub sums_of_five : Opening → (Max : ℕ) → List Account → List ℕ
 sums_of_five o Max accts =
     let e = loss o.k accts in
     let T = total o accts in
-    Σ (members o.n) e
+    cond (eqb T 0) (0 ∷ 0 ∷ 0 ∷ 0 ∷ 0 ∷ [])
+    (Σ (members o.n) e
     ∷ Σ (members o.n) (λ m. share (e m) T)
     ∷ Σ (members o.n) (λ m. value (e m) Max T)
     ∷ Σ (members o.n) (λ m. reserve (e m) Max T)
     ∷ Σ (members o.n) (λ m. estimate (e m) Max T)
-    ∷ []
+    ∷ [])
 
 pub record AsPrinted : Type 0 where
   -- a member's record is its five numbers, and the sums of the columns are those of the five

@@ -1,10 +1,12 @@
 -- The days that count (document 02, Change 4): a day more is one of them where it has losses, and changes nothing where it has none.
 use mathlib.Core.Path.{◌≡◌, refl}
-use mathlib.Core.Bool.{true, false}
+use mathlib.Core.Bool.{Bool, true, false, cond}
 use mathlib.Core.List.{List, [], ◌∷◌, ◌++◌}
 use Prim.Native.Nat.{ℕ, ◌+◌, ◌<◌}
+use native.Mathlib.Omega.{arith}
+use lib.ListN.{length}
 use borrow.Author.Tests.{ltb-true}
-use Rattle.std.specs.List.{AllByRecursion}
+use Rattle.std.specs.List.{filter, AllByRecursion}
 use Rattle.numbers.specs.Sums.{Σ}
 use Rattle.numbers.proofs.Lists.{◌∈◌, keep_append, keep_cons, keep_cons_skip, keep_none, keep_all, every_mem, mem_keep}
 use Rattle.methodology.specs.declared.Opening.{Opening}
@@ -21,7 +23,17 @@ module _ (o : Opening) where
   unfolding counted
   counted_skip d days = keep_cons_skip _ d days
 
-  -- so it adds its share to a member's sum, or nothing
+  -- so D takes it in, or not
+  pub number_counted : (d : KeptDay) (days : List KeptDay)
+      → length (counted o (d ∷ days)) ≡ cond (counts (total o d.accounts)) (length (counted o days) + 1) (length (counted o days))
+  unfolding counted
+  number_counted d days = by (counts (total o d.accounts)) (filter (λ d. counts (total o d.accounts)) days)
+    where
+      by : (t : Bool) (kept : List KeptDay) → length (cond t (d ∷ kept) kept) ≡ cond t (length kept + 1) (length kept)
+      by true kept = omega arith
+      by false kept = refl
+
+  -- and so does a member's sum its share
   pub sum_cons : (d : KeptDay) (days : List KeptDay) (m : ℕ) → counts (total o d.accounts) ≡ true
       → sum_of_shares o (d ∷ days) m ≡ share (loss o.k d.accounts m) (total o d.accounts) + sum_of_shares o days m
   unfolding sum_of_shares Σ

@@ -24,7 +24,7 @@ use Rattle.methodology.specs.declared.Status.{Status}
 use Rattle.methodology.specs.Refusals.{Verdict, clear, is_open, opening_refusal, day_refusal, closing_refusal}
 use Rattle.methodology.specs.Register.{Call, Register, start, last_number, refusal, accept, if_accepted, step, returned, written, Answer, accepted, answer_by, answer, buffer}
 use Rattle.methodology.proofs.SoFar.{reported_is_m, reported_more}
-use Rattle.methodology.proofs.Counted.{counted_cons, counted_skip, sum_cons, sum_skip}
+use Rattle.methodology.proofs.Counted.{number_counted, sum_cons, sum_skip}
 use Rattle.fund.specs.Shares.{plus_each}
 use Rattle.fund.proofs.Contributions.{are_contributions, is_total_funded}
 use Rattle.period.specs.declared.Period.{Period}
@@ -151,14 +151,9 @@ module _ (g : Register) (q : Good g) (d : DayInput) where
   abbrev kept : KeptDay
   kept = record { number = d.terms.number; accounts = accts }
 
-  -- D and the sums after it, with its shares where it counts
+  -- the sums after it, with its shares where it counts
   abbrev share_of : Opening → (i : ℕ) → ℕ
   share_of o i = cond (ltb i g.held.n) (share (loss g.held.k accts (i + 1)) (total o accts)) 0
-
-  days_are : (t : Bool) → counts (total g.held accts) ≡ t
-      → cond t (length (counted g.held g.days) + 1) (length (counted g.held g.days)) ≡ length (counted g.held (kept ∷ g.days))
-  days_are true e = rw (counted_cons g.held kept g.days e) (omega arith)
-  days_are false e = rw (counted_skip g.held kept g.days e) refl
 
   added : (b : Bool) (x y : ℕ) → cond b x 0 + cond b y 0 ≡ cond b (y + x) 0
   added true x y = add_comm x y
@@ -190,7 +185,7 @@ module _ (g : Register) (q : Good g) (d : DayInput) where
       let sums = map (sum_at g.held g.days) (range_with_len 0 32) in
       ap (with_accrued (period_of g))
       (by_fields refl
-      (rw (held_is g q) (days_are (counts (total g.held accts)) refl))
+      (rw (held_is g q) (sym (number_counted g.held kept g.days)))
       (reported_is ∙ reported_is_m g.held (kept ∷ g.days))
       (ap (λ (o : Opening). cond (counts (total o accts)) (plus_each sums (share_of o)) sums) (held_is g q) ∙ sums_after (counts (total g.held accts)) refl))
 
