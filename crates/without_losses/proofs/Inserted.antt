@@ -20,9 +20,9 @@ use Rattle.methodology.specs.declared.Opening.{Opening}
 use Rattle.methodology.specs.Account.{DayInput, members, accounts}
 use Rattle.methodology.specs.Day.{total}
 use Rattle.methodology.specs.Contribution.{KeptDay, counted, reported_max_eul, highest, sum_of_shares, raw, exact_charge, three, funded, contributions, total_funded}
-use Rattle.methodology.specs.Refusals.{Verdict, clear, row◌when◌else◌, is_open, outside, bad_day_number, bad_input, bad_output, account_rows, day_rows, day_refusal}
+use Rattle.methodology.specs.Refusals.{Verdict, clear, row◌when◌else◌, is_open, outside, bad_day_number, bad_input, bad_output, account_rows, day_rows, day_refusal, closing_refusal}
 use Rattle.methodology.specs.Register.{Call, Register, last_number, refusal, accept, if_accepted, step, returned, written, refused, refused_by, answer_by}
-use Rattle.methodology.proofs.Passed.{step_clear, answer_is, buffer_is}
+use Rattle.methodology.proofs.Passed.{step_clear, answer_is, buffer_is, either}
 use Rattle.methodology.proofs.Counted.{counted_skip, counted_append, counted_again}
 use Rattle.methodology.proofs.SoFar.{reported_is_m}
 use Rattle.methodology.proofs.Enough.{rises}
@@ -134,14 +134,21 @@ day_alike s o last last' d room h f =
 
 -- ---- calls
 
--- the next accepted day, after an accepted call and after a refused one
-next_accepted : (g : Register) (c : Call) (cs : List Call) → refusal g c ≡ clear → next_number g (c ∷ cs) ≡ next_of c (next_number (accept g c) cs)
-unfolding step
+-- the next accepted day: an accepted call decides, and a refused one is passed over
+next_accepted : (g : Register) (c : Call) (cs : List Call) → refusal g c ≡ clear → next_number g (c ∷ cs) ≡ next_of c
 next_accepted g c cs e = rw e
 
 next_refused : (g : Register) (c : Call) (cs : List Call) (met : Refusal) → refusal g c ≡ Err met → next_number g (c ∷ cs) ≡ next_number g cs
-unfolding step
 next_refused g c cs met e = rw e
+
+-- a closed period has none
+none_closed : (number : ℕ) (o : Opening) (days : List KeptDay) (cs : List Call) → BelowNext number (next_number (kept Closed o days) cs)
+unfolding refusal day_refusal closing_refusal row◌when◌else◌
+none_closed number o days [] = tt
+none_closed number o days (Call.opening o' ∷ cs) =
+    either (BelowNext number) (refusal (kept Closed o days) (Call.opening o')) _ _ (λ e. tt) (none_closed number o days cs)
+none_closed number o days (Call.day d room ∷ cs) = none_closed number o days cs
+none_closed number o days (Call.closing room ∷ cs) = none_closed number o days cs
 
 -- where the registers are the same
 unchanged_refl : (g : Register) (cs : List Call) → Unchanged g g cs
@@ -182,6 +189,10 @@ module _ (o : Opening) (x : KeptDay) (earlier : List KeptDay) (none : total o x.
   Fits [] next = BelowNext x.number next
   Fits (d ∷ later) next = Unit {0}
 
+  fits_closed : (later : List KeptDay) (cs : List Call) → Fits later (next_number (without Closed later) cs)
+  fits_closed [] cs = none_closed x.number o earlier cs
+  fits_closed (d ∷ later) cs = tt
+
   same_days : (later : List KeptDay) → SameFigures o (later ++ earlier) (later ++ (x ∷ earlier))
   same_days later = same_figures o _ _ (sym (days_inserted o later earlier x none).counted_same)
 
@@ -202,7 +213,7 @@ module _ (o : Opening) (x : KeptDay) (earlier : List KeptDay) (none : total o x.
       → let g = without s later in
       let g' = with s later in
       Fits later (next_number g (c ∷ cs)) → Alike (refusal g c) (refusal g' c)
-      → (Fits later (next_of c (next_number (accept g c) cs)) → Unchanged (accept g c) (accept g' c) cs)
+      → (Fits later (next_of c) → Unchanged (accept g c) (accept g' c) cs)
       → (Fits later (next_number g cs) → Unchanged g g' cs)
       → Unchanged g g' (c ∷ cs)
   call_more s later c cs fits a after stays =
@@ -224,7 +235,7 @@ module _ (o : Opening) (x : KeptDay) (earlier : List KeptDay) (none : total o x.
   unchanged s (y ∷ later) (Call.day d room ∷ cs) fits =
       call_more s (y ∷ later) (Call.day d room) cs fits (alike_refl _) (unchanged s (kept_day o d ∷ y ∷ later) cs) (unchanged s (y ∷ later) cs)
   unchanged s later (Call.closing room ∷ cs) fits =
-      call_more s later (Call.closing room) cs fits (alike_refl _) (unchanged Closed later cs) (unchanged s later cs)
+      call_more s later (Call.closing room) cs fits (alike_refl _) (λ fits. unchanged Closed later cs (fits_closed later cs)) (unchanged s later cs)
 
 pub inserted : (g : Register) (d : DayInput) (room : ℕ) (calls : List Call) → AcceptedWithout g d room → BelowNext d.terms.number (next_number g calls)
     → Unchanged g (step g (Call.day d room)) calls

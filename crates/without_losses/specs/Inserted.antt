@@ -24,17 +24,16 @@ pub record AcceptedWithout (g : Register) (d : DayInput) (room : ℕ) : Type 0 w
   pub passes : refusal g (Call.day d room) ≡ clear
   pub no_loss : total g.held (accounts g.held.k d) ≡ 0
 
--- The number of the next day that the register accepts of these calls; none where the period takes no further day.
-abbrev pub next_of : Call → (later : Option ℕ) → Option ℕ
-next_of (Call.opening o) later = None
-next_of (Call.day d room) later = Some d.terms.number
-next_of (Call.closing room) later = later
+-- The number of the next day that the register accepts of these calls; none where it accepts an opening or a closing before, after which the
+-- period takes no further day. A refused call leaves the register as it was.
+abbrev pub next_of : Call → Option ℕ
+next_of (Call.opening o) = None
+next_of (Call.day d room) = Some d.terms.number
+next_of (Call.closing room) = None
 
 abbrev pub next_number : Register → List Call → Option ℕ
 next_number g [] = None
-next_number g (c ∷ cs) =
-    let later = next_number (step g c) cs in
-    if_accepted (refusal g c) (next_of c later) later
+next_number g (c ∷ cs) = if_accepted (refusal g c) (next_of c) (next_number g cs)
 
 -- "a number between those of the accepted days around it": above the one before by row 3, since it is accepted, and below the next
 abbrev pub BelowNext : (number : ℕ) → Option ℕ → Type 0
