@@ -159,8 +159,7 @@ rest_back {g = g} near k (a_day_lem {rest = rest} d passes more) =
     let after = step g call in
     let members = ap (λ (x : Register). x.held.n) (step_clear g call passes) in
     let D = length (counted g.held g.days) in
-    let count : length (counted after.held after.days) ≡ cond (counts (total g.held (accounts g.held.k d))) (D + 1) D =
-    ap (λ (x : Register). length (counted x.held x.days)) (step_clear g call passes) ∙ number_counted g.held _ g.days in
+    let count : length (counted after.held after.days) ≡ cond (counts (T k d passes)) (D + 1) D = rw (step_clear g call passes) (number_counted g.held _ g.days) in
     let top = highest g.held g.days in
     let later = rest_back near (fit k d passes).kept more in
     let reported = subst (λ (top : ℕ). ReadsBack after.held.n (length (counted after.held after.days)) top rest) (sym (max_is_m k d passes)) later in
@@ -181,12 +180,12 @@ unfolding accept
 report_back {n} {s = s} near (a_period o is few passes rest) =
     let after = step start (Call.opening o) in
     let members = ap (λ (x : Register). x.held.n) (step_clear start (Call.opening o) passes) ∙ is in
-    let none : after.days ≡ [] = ap (λ (x : Register). x.days) (step_clear start (Call.opening o) passes) in
-    let m_is : highest after.held after.days ≡ 0 = rw none (highest_none after.held [] (counted_nil after.held)) in
+    let days : after.days ≡ [] = ap (λ (x : Register). x.days) (step_clear start (Call.opening o) passes) in
+    let none : counted after.held after.days ≡ [] = rw days (counted_nil after.held) in
     let back = rest_back near (call_fits kept_first (Call.opening o)).kept rest in
     let of-all = subst (λ (n : ℕ). ReadsBack n (length (counted after.held after.days)) (highest after.held after.days) s) members back in
-    let counted = subst (λ (days : List KeptDay). ReadsBack n (length (counted after.held days)) (highest after.held after.days) s) none of-all in
-    subst (λ (top : ℕ). ReadsBack n 0 top s) m_is counted
+    let from_0 = subst (λ (those : List KeptDay). ReadsBack n (length those) (highest after.held after.days) s) none of-all in
+    subst (λ (top : ℕ). ReadsBack n 0 top s) (highest_none after.held after.days none) from_0
 report_back near (no_period met line in-text) = ends_so (refusal_ends met line (omega arith))
 
 -- the number of members, off the text's first line
