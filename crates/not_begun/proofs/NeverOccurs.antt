@@ -1,5 +1,6 @@
 -- A number that no row of the refusal table has is in no answer and in no report: every answer is the table's, and every line of a report
--- that tells of a refusal has a number that occurs. `number_8_never_occurs` is Change 2's.
+-- that tells of a refusal has a number that occurs. `number_8_never_occurs` is Change 2's, `number_7_never_occurs`
+-- Change 4's.
 use mathlib.Core.Path.{◌≡◌, refl, sym, ap, subst, ◌∙◌}
 use mathlib.Core.Bool.{true, false, true≢false}
 use mathlib.Core.List.{List, [], ◌∷◌, map}
@@ -58,3 +59,6 @@ module _ (number : ℕ) (gone : occurs number ≡ false) where
 
 pub number_8_never_occurs : NeverOccurs 8
 number_8_never_occurs = never_occurs 8 refl
+
+pub number_7_never_occurs : NeverOccurs 7
+number_7_never_occurs = never_occurs 7 refl

@@ -16,11 +16,12 @@ use Rattle.methodology.specs.declared.Status.TheVariants.{Open}
 use Rattle.methodology.specs.declared.Refusal.TheVariants.{BadLine}
 use Rattle.methodology.specs.declared.Opening.{Opening}
 use Rattle.methodology.specs.Account.{members}
-use Rattle.methodology.specs.Contribution.{charge, raw, funded, unfunded, three, contributions, total_funded}
+use Rattle.methodology.specs.Contribution.{counted, charge, raw, funded, unfunded, three, contributions, total_funded}
 use Rattle.methodology.specs.Refusals.{clear, bad_opening}
 use Rattle.methodology.specs.Register.{Call, Register, start, refusal, accept, step, returned, written, accepted, answer, buffer}
 use Rattle.methodology.specs.Text.{bytes, printed, stretch, rows, refused_line, fund_lines, closed, report_of}
 use Rattle.methodology.proofs.Passed.{step_clear, opened_anew}
+use Rattle.methodology.proofs.Counted.{counted_nil, number_counted}
 use Rattle.methodology.proofs.Splits.{nothing_after, something_after}
 use Rattle.methodology.proofs.Reports.{closing_clear}
 use Rattle.fund.proofs.RawCharge.{highest_none, raw_none, exact_none}
@@ -39,11 +40,11 @@ use Rattle.not_begun.proofs.MonthText.{opening_clear, to_the_end}
 -- ---- the figures
 
 writes_none : (o : Opening) → contributions o [] ≡ flat_map (λ m. 0 ∷ 50000000 ∷ 100000000 ∷ []) (members o.n)
-unfolding contributions three raw charge funded unfunded
+unfolding contributions three raw charge counted funded unfunded
 writes_none o = refl
 
 total_none : (o : Opening) → total_funded o [] ≡ o.n * 50000000
-unfolding total_funded raw charge funded
+unfolding total_funded raw charge counted funded
 total_none o = Σ-const (members o.n) 50000000 ∙ ap (λ (n : ℕ). n * 50000000) (length-range_with_len 1 o.n)
 
 -- ---- the register
@@ -61,7 +62,7 @@ module _ (g : Register) (room : ℕ) (none : NoAcceptedDay g) (long : room ≡ 3
 
   says : answer g call ≡ accepted (0 ∷ 0 ∷ g.held.n * 50000000 ∷ [])
   unfolding answer returned
-  says = rw (accepted_then, leaves, highest_none g.held, total_none g.held)
+  says = rw (accepted_then, leaves, counted_nil g.held, highest_none g.held [] (counted_nil g.held), total_none g.held)
 
   writes : (before : List ℕ) → buffer g call before ≡ flat_map (λ m. 0 ∷ 50000000 ∷ 100000000 ∷ []) (members g.held.n)
   unfolding buffer written
@@ -98,24 +99,26 @@ at_once cs a c o out made is e is' long =
 
 -- ---- D
 
--- the register keeps as many days as were answered as accepted
-counted : (g : Register) (a : Asked) → after_accepted a (returned (accept g (call_of a)) (call_of a)) (length g.days) ≡ length (accept g (call_of a)).days
-unfolding accept
-counted g (Asked.opening o) = refl
-counted g (Asked.day d out) = omega arith
-counted g (Asked.closing out) = refl
+-- as many days count as were answered with a T above 0
+number_is : (g : Register) (a : Asked)
+    → let after = accept g (call_of a) in
+    after_accepted a (returned after (call_of a)) (length (counted g.held g.days)) ≡ length (counted after.held after.days)
+unfolding accept returned
+number_is g (Asked.opening o) = rw (counted_nil o) refl
+number_is g (Asked.day d out) = sym (number_counted g.held _ g.days)
+number_is g (Asked.closing out) = refl
 
 d_shows : (cs : List Made) (c : Made) (out figures : List ℕ) → Holds start (cs ++ (c ∷ [])) → c.asked ≡ Asked.closing out
     → c.answer ≡ accepted figures → take 1 figures ≡ days_answered cs ∷ []
-unfolding answer returned accept
+unfolding answer returned accept counted
 d_shows cs c out figures holds is said =
     let g = register_after start cs in
     let k = Call.closing (length out) in
     let answered : answer g k ≡ accepted figures = rw is at (sym (last_agrees start cs c holds).answer ∙ said) in
     let (passes, same) = is_clear (refusal g k) _ figures answered in
-    let kept = ap (λ (x : Register). length x.days ∷ []) (step_clear g k passes) in
+    let kept = ap (λ (x : Register). length (counted x.held x.days) ∷ []) (step_clear g k passes) in
     ap (take 1) (sym same) ∙ kept
-    ∙ ap (λ (D : ℕ). D ∷ []) (sym (from_answers_lem after_accepted (λ g. length g.days) counted start cs (c ∷ []) holds))
+    ∙ ap (λ (D : ℕ). D ∷ []) (sym (from_answers_lem after_accepted (λ g. length (counted g.held g.days)) number_is start cs (c ∷ []) holds))
 
 -- ---- texts
 
@@ -146,7 +149,7 @@ report o good =
     ap report_of (sym (append-nil (text_of o)))
     ∙ to_the_end o good []
     ∙ nothing_after g (o.n + 2) (o.n + 3)
-    ∙ rw (closing_clear g none.opened, leaves g room none refl, highest_none g.held, total_none g.held, writes_none g.held)
+    ∙ rw (closing_clear g none.opened, leaves g room none refl, counted_nil g.held, highest_none g.held [] (counted_nil g.held), total_none g.held, writes_none g.held)
     (fund_is g.held.n ∙ rw is refl)
 
 report_after : (o : Opening) (rest : List ℕ) → bad_opening o ≡ false → 0 < length rest → report_of (text_of o ++ rest) ≡ refused_line BadLine (o.n + 3)
@@ -155,9 +158,9 @@ report_after o rest good some = to_the_end o good rest ∙ something_after (step
 pub not_begun : NotBegun
 not_begun =
     record {
-      m_is = highest_none;
-      raw_is = raw_none;
-      exact_is = exact_none;
+      m_is = λ o. highest_none o [] (counted_nil o);
+      raw_is = λ o. raw_none o [] (counted_nil o);
+      exact_is = λ o. exact_none o [] (counted_nil o);
       closes = λ g before none long. closes g (length before) none long before;
       every_list = λ cs c out made. of_list cs c out (demand_3.every_list (cs ++ (c ∷ [])) made);
       at_once = at_once;

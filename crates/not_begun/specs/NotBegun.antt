@@ -1,6 +1,6 @@
 -- Document 02, Change 2: "A closing with no accepted day now gives M 0, D 0, raw 0 and funded 50,000,000 for every member." `NotBegun` is the
 -- claim. That "the bound on the fund keeps its form" demand 3 says: `Covers` holds at every accepted closing, with days or without.
-use Rattle.std.specs.Prelude.{◌≡◌, false, ℕ, ◌+◌, ◌*◌, ◌<◌, length, take}
+use Rattle.std.specs.Prelude.{◌≡◌, false, cond, ℕ, ◌+◌, ◌*◌, ◌<◌, length, get_or, take}
 use mathlib.Core.List.{List, [], ◌∷◌, ◌++◌, map, flat_map}
 use seplogic.Ra.Ura.{Ura}
 use base.Logic.{SProp}
@@ -14,7 +14,7 @@ use Rattle.methodology.specs.declared.Refusal.TheVariants.{BadLine}
 use Rattle.methodology.specs.declared.Opening.{Opening}
 use Rattle.methodology.specs.Account.{members}
 use Rattle.methodology.specs.Day.{group_number}
-use Rattle.methodology.specs.Contribution.{highest, raw, exact_charge}
+use Rattle.methodology.specs.Contribution.{highest, counts, raw, exact_charge}
 use Rattle.methodology.specs.Refusals.{clear, bad_opening}
 use Rattle.methodology.specs.Register.{Call, Register, start, refusal, step, Answer, accepted, answer, buffer}
 use Rattle.methodology.specs.Text.{bytes, printed, refused_line, report_of}
@@ -47,10 +47,11 @@ pub record ClosedAt (g : Register) (c : Made) : Type 0 where
 
 -- ---- D
 
--- D as a caller counts it from answers alone: 0 after an accepted opening, and 1 more after each accepted day
+-- D as a caller counts it from answers alone: 0 after an accepted opening, and 1 more after each accepted day that counts, by the T that it
+-- returned (Change 4)
 abbrev pub after_accepted : Asked → (figures : List ℕ) → (D : ℕ) → ℕ
 after_accepted (Asked.opening o) figures D = 0
-after_accepted (Asked.day d out) figures D = D + 1
+after_accepted (Asked.day d out) figures D = cond (counts (get_or figures 0 0)) (D + 1) D
 after_accepted (Asked.closing out) figures D = D
 
 abbrev pub days_answered : List Made → ℕ
@@ -95,7 +96,8 @@ pub record NotBegun : Type 2 where
       (cs : List Called) (c : Called) (out : List ℕ) → FromFresh 𝓛 mem run (cs ++ (c ∷ [])) → (made_of c).asked ≡ Asked.closing out
       → let g = register_after start (map made_of cs) in
       NoAcceptedDay g → length out ≡ 3 * g.held.n → ClosedAt g (made_of c)
-  -- "a day call that leaves the period alone now shows in D": the D of every closing counts the days that were answered as accepted
+  -- "a day call that leaves the period alone now shows in D": the D of every closing counts the days that were answered as accepted, but
+  -- for those without losses (Change 4)
   pub d_shows : (cs : List Made) (c : Made) (out figures : List ℕ) → MadeOn fresh_period (cs ++ (c ∷ [])) → c.asked ≡ Asked.closing out
       → c.answer ≡ accepted figures → take 1 figures ≡ days_answered cs ∷ []
   -- every text of period, members and end; with anything after it the next line is refused by 9, "before the closing call", as in any month

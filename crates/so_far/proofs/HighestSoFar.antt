@@ -19,8 +19,9 @@ use Rattle.methodology.specs.Member.{loss}
 use Rattle.methodology.specs.Day.{total, own_max_eul, value, reserve, estimate, five, dailies}
 use Rattle.methodology.specs.Contribution.{KeptDay, reported_max_eul, highest}
 use Rattle.methodology.specs.Refusals.{clear}
-use Rattle.methodology.specs.Register.{Call, Register, start, last_number, refusal, accept, step, returned, written, accepted, answer, buffer}
-use Rattle.methodology.proofs.Passed.{loss_stands, step_clear, opened_anew}
+use Rattle.methodology.specs.Register.{Call, Register, start, refusal, accept, step, returned, written, accepted, answer, buffer}
+use Rattle.methodology.proofs.Passed.{step_clear, opened_anew}
+use Rattle.methodology.proofs.Counted.{counted_nil}
 use Rattle.methodology.proofs.SoFar.{reported_is_m, reported_more}
 use Rattle.fund.proofs.RawCharge.{highest_none}
 use Rattle.demand3.specs.Made.{Asked, Made, call_of}
@@ -36,17 +37,20 @@ use Rattle.so_far.specs.HighestSoFar.{owns, reports, MIsTheSame, Nearest, note_a
 -- ---- days
 
 module _ (o : Opening) where
+  none : highest o [] ≡ 0
+  none = highest_none o [] (counted_nil o)
+
   owns_are : (days : List KeptDay) → highest o days ≡ greatest (owns o days) (λ x. x)
   unfolding highest
   owns_are days = sym (greatest_map (λ d. own_max_eul o d.accounts) days (λ x. x))
 
   reports_are : (days : List KeptDay) → highest o days ≡ greatest (reports o days) (λ x. x)
   unfolding greatest
-  reports_are [] = highest_none o
+  reports_are [] = none
   reports_are (d ∷ ds) = omega (arith, reported_is_m o (d ∷ ds), reported_more o d ds, reports_are ds)
 
   last_is : (days : List KeptDay) → highest o days ≡ get_or (reports o days) 0 0
-  last_is [] = highest_none o
+  last_is [] = none
   last_is (d ∷ ds) = sym (reported_is_m o (d ∷ ds))
 
   m_is_the_same_lem : (days : List KeptDay) → MIsTheSame (owns o days) (reports o days) (highest o days)
@@ -59,7 +63,7 @@ module _ (o : Opening) where
       (omega (arith, reported_is_m o (d ∷ ds)), none_above most ds (omega (arith, reported_is_m o (d ∷ ds), reported_more o d ds)))
 
   first_is_own : (d : KeptDay) → reported_max_eul o (d ∷ []) ≡ own_max_eul o d.accounts
-  first_is_own d = omega (arith, reported_more o d [], highest_none o)
+  first_is_own d = omega (arith, reported_more o d [], none)
 
   at_least_own : (d : KeptDay) (days : List KeptDay) → own_max_eul o d.accounts ≤ reported_max_eul o (d ∷ days)
   at_least_own d days = omega (arith, reported_more o d days)
@@ -96,10 +100,6 @@ call_fits cs call =
     subst (λ (g : Register). refusal g call ≡ clear → AcceptedFits (step g call) call) (fold-map step (λ c. call_of c.asked) start cs)
     (as_printed.accepted_fits (map (λ c. call_of c.asked) cs) call)
 
-some_loss : (g : Register) (d : DayInput) (room : ℕ) → refusal g (Call.day d room) ≡ clear → 0 < total g.held (accounts g.held.k d)
-unfolding refusal
-some_loss g d room passes = (loss_stands g.status g.held (last_number g.days) d room passes).1
-
 of_day : (cs : List Made) (c : Made) (d : DayInput) (out : List ℕ) (T Max : ℕ) → Holds start (cs ++ (c ∷ []))
     → c.asked ≡ Asked.day d out → c.answer ≡ accepted (T ∷ Max ∷ [])
     → DayReports (register_after start cs) (noted cs) d T Max c.after
@@ -127,7 +127,6 @@ of_day cs c d out T Max holds is said =
       first_is_own = λ none. let last : get_or (noted cs) 0 0 ≡ 0 = rw none refl in omega (arith, so_far);
       at_least_own = rw reported (at_least_own o kept g.days);
       never_falls = rw (reported, notes) (never_falls o kept g.days);
-      t_above = subst (λ (T : ℕ). 0 < T) (ap (λ (l : List ℕ). get_or l 0 0) told) (some_loss g d (length out) passes);
       t_is = sym (ap (λ (l : List ℕ). get_or l 0 0) told);
       writes =
           wrote ∙ ap (λ (x : Register). written x call) left

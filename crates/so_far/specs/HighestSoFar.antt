@@ -70,8 +70,8 @@ pub record DayReports (g : Register) (notes : List ℕ) (d : DayInput) (T Max : 
   pub first_is_own : notes ≡ [] → Max ≡ own_of g d
   pub at_least_own : own_of g d ≤ Max
   pub never_falls : AllByRecursion (λ x. x ≤ Max) notes
-  -- T, e and share are as they were, and the very Max that is returned is in the three cent figures; T is above 0, as `cents` asks
-  pub t_above : 0 < T
+  -- T, e and share are as they were, and the very Max that is returned is in the three cent figures; on a day without losses all five are 0
+  -- (Change 4)
   pub t_is : T ≡ total g.held (accounts g.held.k d)
   pub writes : out ≡ flat_map (λ m. five (loss g.held.k (accounts g.held.k d) m) Max T) (members g.held.n)
   pub fits : AllByRecursion Fits64 (T ∷ Max ∷ out)
@@ -88,7 +88,7 @@ pub record HighestSoFar : Type 2 where
   pub first_is_own : (o : Opening) (d : KeptDay) → reported_max_eul o (d ∷ []) ≡ own_max_eul o d.accounts
   pub at_least_own : (o : Opening) (d : KeptDay) (days : List KeptDay) → own_max_eul o d.accounts ≤ reported_max_eul o (d ∷ days)
   pub never_falls : (o : Opening) (d : KeptDay) (days : List KeptDay) → AllByRecursion (λ x. x ≤ reported_max_eul o (d ∷ days)) (reports o days)
-  -- the three cent figures are the exact fraction rounded once, whatever Max is, above T too
+  -- the three cent figures of a day with losses are the exact fraction rounded once, whatever Max is, above T too
   pub cents : (e Max T : ℕ) → 0 < T
       → Nearest (value e Max T) (100 * e * Max) T × Nearest (reserve e Max T) (110 * e * Max) T × Nearest (estimate e Max T) (220 * e * Max) T
   -- every accepted day of every list of calls
