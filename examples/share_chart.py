@@ -1,7 +1,8 @@
 #!/usr/bin/env python3
 """share_chart.py MEMBER < report > chart.svg
 
-Draws a member's share of each accepted day's loss. Exits with 1 where there is none to draw.
+Draws a member's share of each accepted day's loss. A day without losses has no shares: it gets a dash, and
+the average is without it. Exits with 1 where there is no accepted day.
 """
 import sys
 from math import ceil
@@ -13,17 +14,19 @@ DARK, GREY, GRID, BLUE, RED = "#1f2933", "#5b6770", "#e1e5ea", "#2f6690", "#c445
 
 
 def read(report, member):
-    """The member's (day, share) pairs, and the refusal that ends the report, if one does."""
-    day, bars, refusal = None, [], None
+    """The member's (day, share) pairs, the share of a day without losses being None; and the refusal that ends
+    the report, if one does."""
+    day, total, bars, refusal = None, 0, [], None
     for at, line in enumerate(report, 1):
         word, *fields = line.rstrip("\n").split("\t")
         try:
             if word == "day":
-                day = int(fields[0])
+                day, total = int(fields[0]), int(fields[1])
             elif word == "daily" and fields[0] == member:
-                bars.append((day, int(fields[2])))
-                if not 0 <= bars[-1][1] <= WHOLE:       # the chart has no place for it
+                share = int(fields[2])
+                if not 0 <= share <= WHOLE:             # the chart has no place for it
                     raise ValueError
+                bars.append((day, share if total > 0 else None))
             elif word == "refused":
                 refusal = int(fields[0]), int(fields[1])
         except (IndexError, ValueError):
@@ -35,6 +38,8 @@ def read(report, member):
 
 def label(percent):
     """Short, so that 31 stand side by side. A 0 is exact."""
+    if percent is None:
+        return "&#8211;"
     if percent == 0 or percent >= 99.95:
         return f"{percent:.0f}"
     return f"{percent:.1f}" if percent >= 0.05 else "&gt;0"
@@ -46,13 +51,18 @@ def text(x, y, size, words, anchor="middle", fill=DARK):
 
 
 def chart(member, bars, refusal):
-    percents = [100 * share / WHOLE for _, share in bars]
-    step = next(step for step in (1, 2, 5, 10, 20) if max(percents) <= 5 * step)
-    steps = max(1, ceil(max(percents) / step))
+    percents = [share if share is None else 100 * share / WHOLE for _, share in bars]
+    held = [percent for percent in percents if percent is not None]
+    most, without = max(held, default=0), len(percents) - len(held)
+    step = next(step for step in (1, 2, 5, 10, 20) if most <= 5 * step)
+    steps = max(1, ceil(most / step))
     unit, slot = (ZERO - TOP) / (step * steps), (RIGHT - LEFT) / len(bars)
     width, size = min(0.7 * slot, 64), int(min(0.4 * slot, 13))
     title = f"Member {member}: share of the expected loss, day by day"
-    note = f"Per cent of the day's total loss T; on average {sum(percents) / len(bars):.1f}%."
+    note = "Per cent of the day's total loss T"
+    note += f"; on average {sum(held) / len(held):.1f}%." if held else "."
+    if without:
+        note += " A dash is a day without losses" + (", left out." if held else ".")
     if refusal:
         note += " After these days the month is refused: row {}, line {}.".format(*refusal)
     yield (f'<svg xmlns="http://www.w3.org/2000/svg" width="{WIDTH}" height="{HEIGHT}" '
@@ -65,9 +75,10 @@ def chart(member, bars, refusal):
         yield f'<path d="M{LEFT} {ZERO - tick * unit:.1f}H{RIGHT}" stroke="{GRID}"/>'
         yield text(LEFT - 10, ZERO - tick * unit + 4, 12, f"{tick}%", "end", GREY)
     for i, ((day, _), percent) in enumerate(zip(bars, percents)):
-        x, top = LEFT + (i + 0.5) * slot, ZERO - percent * unit
-        yield f'<path d="M{x:.1f} {ZERO}V{top:.1f}" stroke="{BLUE}" stroke-width="{width:.1f}"/>'
-        yield text(x, top - 7, size, label(percent), fill=DARK if percent else RED)
+        x, top = LEFT + (i + 0.5) * slot, ZERO - (percent or 0) * unit
+        if percent is not None:
+            yield f'<path d="M{x:.1f} {ZERO}V{top:.1f}" stroke="{BLUE}" stroke-width="{width:.1f}"/>'
+        yield text(x, top - 7, size, label(percent), fill=GREY if percent is None else DARK if percent else RED)
         yield text(x, ZERO + 20, 12, day)
     yield f'<path d="M{LEFT} {ZERO}H{RIGHT}" stroke="{DARK}" stroke-width="2"/>'
     yield text((LEFT + RIGHT) / 2, ZERO + 44, 12, "day of the month", fill=GREY) + "</svg>"

@@ -50,7 +50,7 @@ INSTEAD = {
     "suc": [""], "filter": ["(λ test l. l)"], "descending": ["(λ l. l)"],
     "index": ["(suc index)"], "None": ["(Some 0)"],
 }
-ROWS = "BadOpening OutOfTurn BadDayNumber BadLengths NoLoss BadLine", "BadHeading BadAmount"
+ROWS = "BadOpening OutOfTurn BadDayNumber BadLengths BadLine", "BadHeading BadAmount"
 SAME_TYPE = [names.split() for names in (
     ".n .k", ".margins .extras", ".margin .extra", ".member .number .kind", "o .held",
     "kind_h kind_r kind_a kind_u", "is_house is_r is_aor_u is_client", "prev h nobody", "e Max T", "M S D",
@@ -74,9 +74,9 @@ FROM = {
     "range_with_len": "Rattle.std.specs.List", "Σℤ": "Rattle.numbers.specs.Sums", "Σ": "Rattle.numbers.specs.Sums",
     "greatest": "Rattle.numbers.specs.Sums", "◌⁺": "Rattle.numbers.specs.Signed", "◌⁻": "Rattle.numbers.specs.Signed",
     "round_div": "Rattle.numbers.specs.Rounding", "ceil_div": "Rattle.numbers.specs.Rounding",
-    "with_groups": "Rattle.methodology.specs.Account", "dailies": "Rattle.methodology.specs.Day",
+    "with_groups": "Rattle.methodology.specs.Account", "dailies": "Rattle.methodology.specs.Day", "total": "Rattle.methodology.specs.Day",
     "own_max_eul": "Rattle.methodology.specs.Day", "reported_max_eul": "Rattle.methodology.specs.Contribution",
-    "is_open": "Rattle.methodology.specs.Refusals",
+    "counted": "Rattle.methodology.specs.Contribution", "is_open": "Rattle.methodology.specs.Refusals",
     **dict.fromkeys(" ".join(ROWS).split(), "Rattle.methodology.specs.declared.Refusal.TheVariants"),
 }
 
@@ -99,9 +99,7 @@ Register.returned | reported_max_eul g.held g.days ∷ [] | min (total g.held (a
 Register.written | (reported_max_eul g.held g.days) | (own_max_eul g.held (accounts g.held.k d))
 Register.written | (reported_max_eul g.held g.days) | (min (total g.held (accounts g.held.k d)) (reported_max_eul g.held g.days))
 Register.written | (reported_max_eul g.held g.days) | (reported_max_eul g.held (drop 1 g.days))
-Contribution.sum_of_shares | Σ days | Σ (take 2 days)
-Contribution.sum_of_shares | Σ days | Σ (take 1 days)
-Contribution.raw | (length days) | (length (take 2 days))
+Contribution.raw | (length (counted o days)) | (length (take 2 (counted o days)))
 Contribution.charge | ceil_div (11 * M * S) (10 * D * scale) | ceil_div (11 * M * ceil_div S D) (10 * scale)
 Contribution.charge | ceil_div (11 * M * S) (10 * D * scale) | ceil_div (11 * ceil_div (M * S) (D * scale)) 10
 Contribution.charge | ceil_div (11 * M * S) (10 * D * scale) | round_div (11 * M * S) (10 * D * scale)
@@ -111,8 +109,8 @@ Contribution.exact_charge | cond (eqb D 0) (0 over 1) ((11 | cond (eqb D 0) ((11
 Contribution.charge | cond (eqb D 0) 0 | cond (eqb D 0) 50000000
 Contribution.funded | max rawCharge minimum | cond (eqb rawCharge 0) 0 (max rawCharge minimum)
 Contribution.contributions | flat_map (λ m. three (raw o days m)) (members o.n) | cond (eqb (length days) 0) [] (flat_map (λ m. three (raw o days m)) (members o.n))
-Register.refusal | closing_refusal g.status g.held room | cond (is_open g.status && eqb (length g.days) 0) (Err NoLoss) (closing_refusal g.status g.held room)
-Register.returned | length g.days ∷ highest | cond (eqb (highest g.held g.days) 0) 0 (length g.days) ∷ highest
+Register.refusal | closing_refusal g.status g.held room | cond (is_open g.status && eqb (length g.days) 0) (Err BadLine) (closing_refusal g.status g.held room)
+Register.returned | length (counted g.held g.days) ∷ highest | cond (eqb (highest g.held g.days) 0) 0 (length (counted g.held g.days)) ∷ highest
 Register.accept | record { status = Closed; held | record { status = cond (eqb (length g.days) 0) Open Closed; held
 Register.accept | record { status = Closed; held | record { status = cond (eqb (length g.days) 0) Fresh Closed; held
 Text.at_end | cond (same rest []) | cond (same rest [] || eqb (length g.days) 0)
@@ -153,7 +151,7 @@ RowNumbers.row_index | (BadHeading index) = Some index | (BadHeading index) = No
 RowNumbers.row_index | (BadAmount index) = Some index | (BadAmount index) = None
 Register.step | if_accepted (refusal g c) (accept g c) g | accept g c
 Register.buffer | if_accepted (refusal g c) (written (step g c) c) before | written (step g c) c
-Contribution.raw | (length days) | (length (take 3 days))
+Contribution.raw | (length (counted o days)) | (length (take 3 (counted o days)))
 Day.group_of | (filter (λ m'. eqb (group_number o m') (group_number o m)) (members o.n)) | (take 2 (filter (λ m'. eqb (group_number o m') (group_number o m)) (members o.n)))
 Day.group_of | eqb (group_number o m') (group_number o m) | eqb (group_number o m' % 16) (group_number o m % 16)
 Member.part_c | Σ (filter is_aor_u accts) (λ a. eul a ⁺) | Σℤ (filter is_aor_u accts) eul ⁺
@@ -164,9 +162,9 @@ Refusals.bad_amount | list_any npv_outside a.npvs | list_any npv_outside (take 3
 Refusals.bad_amount | list_any npv_outside a.npvs | list_any npv_outside (take 16 a.npvs)
 Refusals.first_not_zero | not (eqb prev.member h.member) && | ltb 0 prev.member && not (eqb prev.member h.member) &&
 Refusals.member_skipped | ltb (prev.member + 1) h.member | eqb (prev.member + 2) h.member
-Refusals.day_rows | row BadDayNumber when bad_day_number last d.terms.number else⏎account_rows o d | row BadDayNumber when outside 1 31 d.terms.number else⏎rows_of account_rows o d else⏎row BadDayNumber when leb d.terms.number last else⏎clear
-Refusals.before_figures | row BadLengths when bad_output o room else⏎day_rows o last d | rows_of day_rows o last d else⏎row BadLengths when bad_output o room else⏎clear
-Refusals.day_rows | row BadDayNumber when bad_day_number last d.terms.number else⏎account_rows o d | rows_of account_rows o d else⏎row BadDayNumber when bad_day_number last d.terms.number else⏎clear
+Refusals.day_rows | row BadDayNumber when bad_day_number last d.terms.number else⏎account_rows o d | row BadDayNumber when outside 1 31 d.terms.number else⏎elim (account_rows o d) [ Err r ↦ Err r⏎|⏎Ok _ ↦ row BadDayNumber when leb d.terms.number last else clear ]
+Refusals.day_refusal | row BadLengths when bad_output o room else⏎day_rows o last d | elim (day_rows o last d) [ Err r ↦ Err r⏎|⏎Ok _ ↦ row BadLengths when bad_output o room else clear ]
+Refusals.day_rows | row BadDayNumber when bad_day_number last d.terms.number else⏎account_rows o d | elim (account_rows o d) [ Err r ↦ Err r⏎|⏎Ok _ ↦ row BadDayNumber when bad_day_number last d.terms.number else clear ]
 Register.accept | status = Open; held = o; days = [] | status = Open; held = o; days = cond (eqb o.n g.held.n) g.days []
 Register.accept | held = o; days = [] | held = with_groups o (cond (eqb o.n g.held.n) g.held.groups o.groups); days = []
 Register.step | if_accepted (refusal g c) (accept g c) g | if_accepted (refusal g c) (accept g c) (record { status = g.status; held = g.held; days = take 1 g.days })
@@ -201,6 +199,46 @@ Text.day_lines | (totals n out) | (column_sum 5 n out 0 ∷ column_sum 5 n out 1
 Text.day_lines | (totals n out) | (column_sum 5 n out 0 ∷ column_sum 5 n out 1 ∷ 100 * get_or answer 1 0 ∷ drop 3 (totals n out))
 Text.sized | day_lines d.terms.number after.held.n (returned after call) (written after call) | printed (bytes "day") (d.terms.number ∷ returned after call) ++ rows (bytes "daily") 5 after.held.n (written after call) ++ printed (bytes "total") (totals after.held.n (flat_map (λ k. dailies g.held (reported_max_eul g.held g.days) k.accounts) (take 1 g.days)))
 Text.sized | day_lines d.terms.number after.held.n (returned after call) (written after call) | printed (bytes "day") (d.terms.number ∷ returned after call) ++ rows (bytes "daily") 5 after.held.n (written after call) ++ printed (bytes "total") (map (λ c. Σ after.days (λ k. column_sum 5 after.held.n (dailies g.held (reported_max_eul g.held after.days) k.accounts) c)) (range_with_len 0 5))
+Contribution.counted | filter (λ d. counts (total o d.accounts)) days | cond (eqb (length (filter (λ d. counts (total o d.accounts)) days)) 0) days (filter (λ d. counts (total o d.accounts)) days)
+Contribution.counted | filter (λ d. counts (total o d.accounts)) days | take 30 (filter (λ d. counts (total o d.accounts)) days)
+Contribution.counted | counts (total o d.accounts) | counts (total o d.accounts) || eqb d.number 31
+Contribution.counted | counts (total o d.accounts) | counts (total o d.accounts) && not (eqb d.number 31)
+Contribution.counted | counts (total o d.accounts) | counts (loss o.k d.accounts 1)
+Contribution.counted | counts (total o d.accounts) | counts (greatest (members o.n) (loss o.k d.accounts) / 2)
+Contribution.raw | (length (counted o days)) | (length days)
+Contribution.raw | (length (counted o days)) | (max 1 (length days))
+Contribution.raw | (sum_of_shares o days m) | (Σ days (λ d. cond (counts (total o d.accounts)) (share (loss o.k d.accounts m) (total o d.accounts)) scale))
+Contribution.sum_of_shares | Σ (counted o days) | Σ days
+Contribution.sum_of_shares | Σ (counted o days) | greatest (counted o days)
+Contribution.exact_charge | let D = length (counted o days) in | let D = length days in
+Contribution.exact_charge | (10 * D) ⊗ | (10 * length days) ⊗
+Contribution.exact_charge | cond (eqb D 0) | cond (eqb (length days) 0)
+Contribution.exact_charge | Σᶠ (counted o days) | Σᶠ days
+Contribution.highest | greatest days | greatest (filter (λ d. ltb 0 (total o d.accounts)) days)
+Contribution.reported_max_eul | greatest days | greatest (filter (λ d. ltb 0 (total o d.accounts)) days)
+Day.five | (0 ∷ 0 ∷ 0 ∷ 0 ∷ 0 ∷ []) | (e ∷ 0 ∷ 0 ∷ 0 ∷ 0 ∷ [])
+Day.five | (0 ∷ 0 ∷ 0 ∷ 0 ∷ 0 ∷ []) | (0 ∷ scale ∷ 0 ∷ 0 ∷ 0 ∷ [])
+Day.five | (0 ∷ 0 ∷ 0 ∷ 0 ∷ 0 ∷ []) | (0 ∷ 0 ∷ 100 * Max ∷ 110 * Max ∷ 220 * Max ∷ [])
+Day.five | (0 ∷ 0 ∷ 0 ∷ 0 ∷ 0 ∷ []) | []
+Day.five | cond (eqb T 0) (0 | cond (leb T 1) (0
+Register.returned | length (counted g.held g.days) ∷ highest | length g.days ∷ highest
+Register.returned | length (counted g.held g.days) ∷ highest | cond (eqb (length (counted g.held g.days)) 0) (length g.days) (length (counted g.held g.days)) ∷ highest
+Register.returned | reported_max_eul g.held g.days ∷ [] | cond (eqb (total g.held (accounts g.held.k d)) 0) 0 (reported_max_eul g.held g.days) ∷ []
+Register.refusal | (last_number g.days) | (last_number (counted g.held g.days))
+Register.refusal | (last_number g.days) | (cond (eqb (length (counted g.held g.days)) 0) 0 (last_number g.days))
+Register.refusal | day_refusal g.status g.held (last_number g.days) d room | day_refusal g.status g.held (cond (eqb (total g.held (accounts g.held.k d)) 0) (last_number g.days - 1) (last_number g.days)) d room
+Register.refusal | day_refusal g.status g.held (last_number g.days) d room | cond (eqb (total g.held (accounts g.held.k d)) 0 && eqb (last_number g.days) 31) (Err BadDayNumber) (day_refusal g.status g.held (last_number g.days) d room)
+Register.accept | number = d.terms.number | number = cond (eqb (total g.held (accounts g.held.k d)) 0) 0 d.terms.number
+Register.accept | number = d.terms.number | number = cond (eqb (total g.held (accounts g.held.k d)) 0) (last_number g.days) d.terms.number
+Register.accept | record { number = d.terms.number; accounts = accounts g.held.k d } ∷ g.days | cond (eqb (total g.held (accounts g.held.k d)) 0) g.days (record { number = d.terms.number; accounts = accounts g.held.k d } ∷ g.days)
+Register.accept | record { number = d.terms.number; accounts = accounts g.held.k d } ∷ g.days | record { number = d.terms.number; accounts = accounts g.held.k d } ∷ cond (eqb (total g.held (accounts g.held.k d)) 0) [] g.days
+Register.accept | record { status = Closed; held | record { status = cond (eqb (length (counted g.held g.days)) 0) Open Closed; held
+Refusals.day_refusal | day_rows o last d | elim (day_rows o last d) [ Err r ↦ Err r⏎|⏎Ok _ ↦ row BadLengths when eqb (total o (accounts o.k d)) 0 else clear ]
+Refusals.day_refusal | day_rows o last d | elim (day_rows o last d) [ Err r ↦ Err r⏎|⏎Ok _ ↦ row BadLine when eqb last 0 && eqb (total o (accounts o.k d)) 0 else clear ]
+Refusals.day_refusal | day_rows o last d | cond (eqb (total o (accounts o.k d)) 0) clear (day_rows o last d)
+Refusals.day_rows | account_rows o d | cond (eqb (total o (accounts o.k d)) 0) clear (account_rows o d)
+Text.day_lines | rows (bytes "daily") 5 n out | cond (eqb (get_or answer 0 0) 0) [] (rows (bytes "daily") 5 n out)
+Text.day_lines | printed (bytes "total") (totals n out) | cond (eqb (get_or answer 0 0) 0) [] (printed (bytes "total") (totals n out))
 Text.followed_by | report ++ rest next | rest next
 """.strip().split("\n")]
 
@@ -210,7 +248,7 @@ UNCHANGED = ": unchanged"
 
 # A projection is a token for each of its names, as g, .held and .k in g.held.k.
 TOKEN = re.compile(r'"(?:\\.|[^"])*"|[(){};,]|(?<=[\w\'])\.[a-z]\w*|[a-z][\w\']*(?=\.[a-z])|[^\s(){};,"]+')
-WORDS = {"let", "in", "=", ";", "row", "rows_of", "when", "else", ",", "{", "}", "record", ":", "→"}
+WORDS = {"let", "in", "=", ";", "row", "when", "else", ",", "{", "}", "record", ":", "→"}
 INFIX = {"||", "&&", "+", "-", "*", "/", "%", "∷", "++", "+ℤ", "-ℤ", "over", "⊕", "⊗", "×", "≤", "<"}
 
 Token = namedtuple("Token", "text start end")
@@ -337,7 +375,7 @@ def order_changes(text, tokens):
 
 def row_changes(text):
     """A row of the refusal table dropped, or exchanged with the next."""
-    lines = list(re.finditer(r"    (?:row|rows_of) .*? else\n", text))
+    lines = list(re.finditer(r"    row .*? else\n", text))
 
     def named(row):
         return row.group().split()[1].strip("(")

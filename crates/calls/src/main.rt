@@ -1,7 +1,7 @@
 // One list of calls on a period, from a fresh one on: each call gets the period that the one before returned. It shows every row of
 // document 01's refusal table that a call can meet, by each of its conditions, and each two rows that follow one another in an order of
-// precedence; among them accepted calls, whose figures show that a refused one left nothing behind; and six months, five of them opened
-// after a closing, two of which have not begun.
+// precedence; among them accepted calls, whose figures show that a refused one left nothing behind; and eight months, seven of them opened
+// after a closing. Two of these have not begun, and one has days without losses alone.
 //
 // A call prints its number and what it says: accepted with its figures, or refused with the row and, in rows 5 and 6, the index. A day and
 // a closing then print the buffer that they were lent, which was filled with 7. The numbers stand at the calls, so that a reader finds
@@ -232,7 +232,7 @@ impl<'a, P: Print> Calls<'a, P> {
         self.good(12, 1)
     }
 
-    // An open period before its first day. Members 1 and 2 are Affiliates.
+    // An open period before its first day, and its first days, without losses. Members 1 and 2 are Affiliates.
     fn opened(&mut self) -> io::Result<()> {
         self.opening(13, 3, 1, &[5, 5, 0])?;
         // Row 2, also where 1 holds with it.
@@ -245,9 +245,10 @@ impl<'a, P: Print> Calls<'a, P> {
         self.good(18, 0)?;
         self.good(19, 32)?;
         self.good(20, u64::MAX)?;
-        // Row 7, by no loss and by one that the margin just covers; refused on day 30, it leaves day 4 to come.
-        self.with_amounts(21, 0, [0, 0], 0, 0)?;
-        self.with_amounts(22, 0, [60, 10], 50, 0)
+        // Days without losses, by no loss and by one that the margin just covers: they are accepted, and in D of the closing, call 81, they do
+        // not count.
+        self.houses(21, 1, [0; 6], NONE, NONE)?;
+        self.houses(22, 2, LOSS, [50, 0, 0], NONE)
     }
 
     // Day 4, accepted: all four kinds, extras, EULs below 0, half dollars, and Max EUL from the Affiliates together.
@@ -371,7 +372,7 @@ impl<'a, P: Print> Calls<'a, P> {
         self.with_amounts(71, 0, [60, 10], MOST, u64::MAX)?;
         // The first bad account, whichever slice is bad.
         self.houses(72, 30, [0, 0, i64::MIN, 0, 0, 0], NONE, [1, 0, 0])?;
-        // 5 comes before 6 on every account, and 6 before 7.
+        // 5 comes before 6 on every account, and 6 is met on a day without losses too.
         let day = Day {
             terms: DayTerms { number: 30 },
             headings: &[house(1), house(2), account(3, 0, 9)],
@@ -480,6 +481,28 @@ impl<'a, P: Print> Calls<'a, P> {
         self.closing(104, &mut [7; 3])?;
         self.closing(105, &mut [7; 3])
     }
+
+    // Days without losses before, between and after two that count. Each reports the highest Max EUL so far, writes 0, and keeps its number;
+    // D and the mean are without it.
+    fn without_losses(&mut self) -> io::Result<()> {
+        self.opening(106, 3, 1, &NONE)?;
+        self.houses(107, 1, [0; 6], NONE, NONE)?;
+        // Row 3 for its number again.
+        self.good(108, 1)?;
+        self.good(109, 2)?;
+        self.houses(110, 5, LOSS, [50, 0, 0], NONE)?;
+        // Row 3 for a number below it, and above that of the last day that counts.
+        self.good(111, 4)?;
+        self.houses(112, 6, [0, 0, 10, 0, 0, 0], NONE, NONE)?;
+        self.houses(113, 31, [0; 6], NONE, NONE)?;
+        self.closing(114, &mut [7; 9])?;
+        // Such days alone: the closing answers as that of a month that has not begun.
+        self.opening(115, 3, 1, &NONE)?;
+        self.houses(116, 30, [0; 6], NONE, NONE)?;
+        self.houses(117, 31, LOSS, [50, 0, 0], NONE)?;
+        self.closing(118, &mut [7; 9])?;
+        self.closing(119, &mut [7; 9])
+    }
 }
 
 fn main(rt: HostRuntime) -> io::Result<()> {
@@ -497,5 +520,6 @@ fn main(rt: HostRuntime) -> io::Result<()> {
     calls.reopened()?;
     calls.most_members()?;
     calls.most_accounts()?;
-    calls.not_begun()
+    calls.not_begun()?;
+    calls.without_losses()
 }
