@@ -1,4 +1,4 @@
-mod ByFields
+pub mod ByFields
 pub mod Replies
 pub mod InRange
 pub mod Sizing

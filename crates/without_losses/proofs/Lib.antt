@@ -1,2 +1,3 @@
 pub mod Inserted
 pub mod OnlyWithout
+pub mod WithoutLosses

@@ -1,1 +1,2 @@
 pub mod Inserted
+pub mod WithoutLosses
