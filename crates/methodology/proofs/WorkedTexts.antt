@@ -1,6 +1,6 @@
 -- Worked texts with the reports that they must give: document 01's printed month, "with these lines added" as document 02's Change 1 has it,
--- texts refused by every row that a text can meet, and months with groups, clients, several days or none. The reports were worked out from
--- the documents by recalculations of others; the theorem computes them.
+-- texts refused by every row that a text can meet, and months with groups, clients, several days, days without losses or no day. The reports
+-- were worked out from the documents by recalculations of others; the theorem computes them.
 use mathlib.Core.Path.{◌≡◌, refl}
 use mathlib.Core.List.{List, [], ◌∷◌, map}
 use Rattle.std.specs.Prelude.{Some}
