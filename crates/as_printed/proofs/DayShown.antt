@@ -52,14 +52,17 @@ module _ (number n T Max : ℕ) (out : List ℕ) where
   unfolding column_sum
   column_read c = sym (Σ-map (of_member 5 out) (members n) (λ numbers. get_or numbers (suc c) 0))
 
-  pub day_adds_up : length out ≡ 5 * n → get_or (totals n out) 0 0 ≡ T → AddsUp n as_read
+  pub day_adds_up : length out ≡ 5 * n → get_or (totals n out) 0 0 ≡ T
+      → (T ≡ 0 → (m : ℕ) → 1 ≤ m → m ≤ n → stretch 5 m out ≡ 0 ∷ 0 ∷ 0 ∷ 0 ∷ 0 ∷ []) → AddsUp n as_read
   unfolding totals
-  day_adds_up long first =
+  day_adds_up long first zeros =
       record {
         of_members = map-map _ (of_member 5 out) (members n) ∙ map-id (members n);
         wide = every_map _ (of_member 5 out) (members n) (λ m i. let (low, high) = mem_range 1 n i in ap suc (part_length (5 * (m - 1)) 5 out (omega arith)));
         sums_are = rw (column_read 0, column_read 1, column_read 2, column_read 3, column_read 4);
         first_is = first;
+        nothing_lost =
+            λ none. every_map _ (of_member 5 out) (members n) (λ m i. let (low, high) = mem_range 1 n i in zeros none m low (omega arith));
       }
 
   pub day_told : AllByRecursion Told (lines_of_day as_read)

@@ -21,7 +21,7 @@ use Rattle.methodology.proofs.SoFar.{reported_is_m, day_reports}
 use Rattle.methodology.proofs.Enough.{rises}
 use Rattle.methodology.proofs.Reports.{day_call, closing_call, sized_lines, Rest, a_day_lem, a_fund, a_refusal, Report, a_period, no_period, reports}
 use Rattle.fund.proofs.RawCharge.{highest_none}
-use Rattle.fund.proofs.Dailies.{dailies_long}
+use Rattle.fund.proofs.Dailies.{dailies_long, five_none}
 use Rattle.demand3.specs.Demand3.{Fits64}
 use Rattle.demand3.proofs.RegisterFits.{Kept, kept_first, CallFits, call_fits, writes_few}
 use Rattle.answers.proofs.Columns.{totals_fit}
@@ -139,6 +139,7 @@ module _ {g : Register} (k : Kept g) (d : DayInput) (passes : refusal g (day_cal
   day_sums : AddsUp n (as_read d.terms.number n T Max out)
   unfolding written
   day_sums = day_adds_up d.terms.number n T Max out (dailies_long after.held Max _) (first_sum_is_t after.held Max _)
+      (λ none m low high. record_is after.held Max _ m low high ∙ five_none _ Max T none)
 
   no_refusal : AllByRecursion Told (lines_of_day (as_read d.terms.number n T Max out))
   no_refusal = day_told d.terms.number n T Max out

@@ -63,6 +63,8 @@ pub record AddsUp (n : ℕ) (d : DayRead) : Type 0 where
   pub sums_are : d.sums ≡ map (λ c. Σ d.records (λ numbers. get_or numbers c 0)) (range_with_len 1 5)
   -- "and the first equals T"
   pub first_is : get_or d.sums 0 0 ≡ d.T
+  -- where T is 0, "every member's e, share and cents are 0" (Change 4)
+  pub nothing_lost : d.T ≡ 0 → AllByRecursion (λ numbers. drop 1 numbers ≡ 0 ∷ 0 ∷ 0 ∷ 0 ∷ 0 ∷ []) d.records
 
 -- ---- a report
 
