@@ -15,7 +15,7 @@ use Rattle.methodology.specs.declared.Refusal.{Refusal}
 use Rattle.methodology.specs.RowNumbers.{row_number}
 use Rattle.methodology.proofs.RowLimits.{occurs, at_most_9, row_occurs}
 use Rattle.demand3.specs.Demand3.{Fits64}
-use Rattle.as_printed.specs.AsPrinted.{Line, worded, DayRead, lines_of_day, AddsUp, Other, Counts}
+use Rattle.as_printed.specs.AsPrinted.{Line, worded, DayRead, lines_of_day, AddsUp, Other, FundSays}
 use Rattle.as_printed.proofs.PrintedLines.{Word, Shows, shows_line, shows_then, shows_each}
 
 -- a line that tells of a refusal has a number that occurs
@@ -78,7 +78,7 @@ pub record Ends (D M : ℕ) (s : List ℕ) : Type 0 where
   pub lines : List Line
   pub shows : Shows s lines
   pub other : AllByRecursion Other lines
-  pub counts : AllByRecursion (Counts D M) lines
+  pub counts : AllByRecursion (FundSays D M) lines
   pub told : AllByRecursion Told lines
 
 -- a closing's D and M stand first
@@ -90,7 +90,7 @@ fund_ends {D} {M} n figures out head fit few is =
       lines = (worded (bytes "fund") figures ∷ []) ++ map (λ m. worded (bytes "contribution") (of_member 3 out m)) (members n);
       shows = shows_then (shows_line (bytes "fund") figures (refl, refl) head) (shows_rows (bytes "contribution") 3 n out (refl, refl) few fit);
       other = (refl, every_map Other _ (members n) (λ m i. refl));
-      counts = ((λ e. is), every_map (Counts D M) _ (members n) (λ m i e. absurd (false≢true e)));
+      counts = ((λ e. is), every_map (FundSays D M) _ (members n) (λ m i e. absurd (false≢true e)));
       told = ((λ e. absurd (false≢true e)), every_map Told _ (members n) (λ m i e. absurd (false≢true e)));
     }
 

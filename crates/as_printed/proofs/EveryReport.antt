@@ -20,12 +20,13 @@ use Rattle.methodology.proofs.Counted.{counted_nil, number_counted}
 use Rattle.methodology.proofs.SoFar.{reported_is_m, day_reports}
 use Rattle.methodology.proofs.Enough.{rises}
 use Rattle.methodology.proofs.Reports.{day_call, closing_call, sized_lines, Rest, a_day_lem, a_fund, a_refusal, Report, a_period, no_period, reports}
+use Rattle.exposure.proofs.MaxTotal.{own_none}
 use Rattle.fund.proofs.RawCharge.{highest_none}
 use Rattle.fund.proofs.Dailies.{dailies_long, five_none}
 use Rattle.demand3.specs.Demand3.{Fits64}
 use Rattle.demand3.proofs.RegisterFits.{Kept, kept_first, CallFits, call_fits, writes_few}
 use Rattle.answers.proofs.Columns.{totals_fit}
-use Rattle.as_printed.specs.AsPrinted.{Line, lines_of, InDecimal, DayRead, lines_of_day, AddsUp, Other, Counts, last_max, DaysAddUp, register_fed, members_in, ReadAsSummed, AsPrinted}
+use Rattle.as_printed.specs.AsPrinted.{Line, lines_of, InDecimal, DayRead, lines_of_day, AddsUp, Other, FundSays, last_max, DaysAddUp, register_fed, members_in, ReadAsSummed, AsPrinted}
 use Rattle.as_printed.proofs.DaySums.{record_is, sums_are_of_five, first_sum_is_t}
 use Rattle.as_printed.proofs.ReadBack.{digits_alone, no_leading_zero, reads_back, reads_back_as_text}
 use Rattle.as_printed.proofs.PrintedLines.{Shows}
@@ -57,7 +58,7 @@ ends_so {before = before} {top = top} {s = s} e =
             add_up = tt;
             never_fall = tt;
             no_day = every_append Other lines (lines_of []) e.other (refl, tt);
-            all_there = rw add-zero (every_append (Counts before top) lines (lines_of []) e.counts ((λ is. absurd (false≢true is)), tt));
+            all_there = rw add-zero (every_append (FundSays before top) lines (lines_of []) e.counts ((λ is. absurd (false≢true is)), tt));
           };
       all_decimal = subst (λ (l : List ℕ). AllByRecursion InDecimal (split LF l)) (append-nil s) (e.shows.decimal_too [] last_part);
       all_told = rw whole (every_append Told lines (lines_of []) e.told ((λ is. absurd (false≢true is)), tt));
@@ -69,10 +70,10 @@ more_counted : (d : DayRead) (t : Bool) (before : ℕ) (ds : List DayRead)
 more_counted d true before ds = omega arith
 more_counted d false before ds = refl
 
-day_so : {n before top : ℕ} {s rest : List ℕ} {d : DayRead} → Shows s (lines_of_day d) → AddsUp n d → AllByRecursion Told (lines_of_day d) → top ≤ d.Max
+day_so : {n before top : ℕ} {s rest : List ℕ} {d : DayRead} → Shows s (lines_of_day d) → AddsUp n d → AllByRecursion Told (lines_of_day d) → top ≤ d.Max → (d.T ≡ 0 → d.Max ≡ top)
     → ReadsBack n (cond (counts d.T) (before + 1) before) d.Max rest → ReadsBack n before top (s ++ rest)
 unfolding flat_map
-day_so {before = before} {rest = rest} {d = d} shows adds told higher more =
+day_so {before = before} {rest = rest} {d = d} shows adds told higher stays more =
     let m = more.days_add_up in
     let one_more = more_counted d (counts d.T) before m.days in
     record {
@@ -84,9 +85,9 @@ day_so {before = before} {rest = rest} {d = d} shows adds told higher more =
                 shows.are rest ∙ ap (λ (l : List Line). lines_of_day d ++ l) m.whole
                 ∙ sym (append_assoc (lines_of_day d) (flat_map lines_of_day m.days) m.rest);
             add_up = (adds, m.add_up);
-            never_fall = (higher, m.never_fall);
+            never_fall = (higher, stays, m.never_fall);
             no_day = m.no_day;
-            all_there = subst (λ (D : ℕ). AllByRecursion (Counts D (last_max d.Max m.days)) m.rest) one_more m.all_there;
+            all_there = subst (λ (D : ℕ). AllByRecursion (FundSays D (last_max d.Max m.days)) m.rest) one_more m.all_there;
           };
       all_decimal = shows.decimal_too rest more.all_decimal;
       all_told = rw (shows.are rest) (every_append Told (lines_of_day d) (lines_of rest) told more.all_told);
@@ -120,6 +121,13 @@ module _ {g : Register} (k : Kept g) (d : DayInput) (passes : refusal g (day_cal
 
   higher : highest g.held g.days ≤ Max
   higher = omega (arith, day_reports g d (5 * g.held.n) passes)
+
+  -- and it is M of those where T is 0
+  stays : T ≡ 0 → Max ≡ highest g.held g.days
+  unfolding accept
+  stays none =
+      let T-none : total g.held (accounts g.held.k d) ≡ 0 = rw (step_clear g call passes) at none in
+      omega (arith, day_reports g d (5 * g.held.n) passes, own_none g.held (accounts g.held.k d) T-none)
 
   fit : CallFits g call
   fit = call_fits k call
@@ -166,7 +174,7 @@ rest_back {g = g} near k (a_day_lem {rest = rest} d passes more) =
     let reported = subst (λ (top : ℕ). ReadsBack after.held.n (length (counted after.held after.days)) top rest) (sym (max_is_m k d passes)) later in
     let counted = subst (λ (before : ℕ). ReadsBack after.held.n before (Max k d passes) rest) count reported in
     subst (λ (n : ℕ). ReadsBack n D top (sized_lines after d call ++ rest)) members
-    (day_so (day_back k d passes) (day_sums k d passes) (no_refusal k d passes) (higher k d passes) counted)
+    (day_so (day_back k d passes) (day_sums k d passes) (no_refusal k d passes) (higher k d passes) (stays k d passes) counted)
 rest_back {g = g} near k (a_fund passes) =
     let call = closing_call g in
     let after = step g call in

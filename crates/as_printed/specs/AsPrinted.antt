@@ -1,6 +1,6 @@
 -- Document 02, Change 1, of the report as a person reads it off its bytes: "Each sum equals that of the day's records as printed, and the
--- first equals T." `AsPrinted` is the claim. By Change 3 it says of the days' Max EULs too what is read off, and by Change 4 D
--- leaves days without losses out.
+-- first equals T." `AsPrinted` is the claim. It says too that the days' Max EULs never fall (Change 3), and what a day
+-- without losses shows (Change 4).
 use Rattle.std.specs.Prelude.{◌≡◌, true, false, cond, not, ◌&&◌, ◌||◌, ℕ, ◌+◌, ◌*◌, ◌^◌, ◌≤◌, ◌<◌, eqb, ltb, length, get_or, take, drop}
 use mathlib.Core.List.{List, [], ◌∷◌, ◌++◌, map, flat_map}
 use Rattle.std.specs.Prelude.{Some}
@@ -77,14 +77,14 @@ abbrev pub Other : Line → Type 0
 Other l = (same l.word (bytes "day") || same l.word (bytes "daily") || same l.word (bytes "total")) ≡ false
 
 -- a fund line whose first numbers are this D and this M, or no fund line
-abbrev pub Counts : (D M : ℕ) → Line → Type 0
-Counts D M l = same l.word (bytes "fund") ≡ true → take 2 l.numbers ≡ D ∷ M ∷ []
+abbrev pub FundSays : (D M : ℕ) → Line → Type 0
+FundSays D M l = same l.word (bytes "fund") ≡ true → take 2 l.numbers ≡ D ∷ M ∷ []
 
--- Change 3: no day's Max EUL is below the one of the day before it, and before the first stands `top`; and the last day's, or `top` without
--- days
+-- Change 3: no day's Max EUL is below the one of the day before it, and before the first stands `top`; on a day without losses it is the same
+-- (Change 4). And the last day's, or `top` without days.
 abbrev pub NeverFall : (top : ℕ) → List DayRead → Type 0
 NeverFall top [] = Unit {0}
-NeverFall top (d ∷ ds) = (top ≤ d.Max) × NeverFall d.Max ds
+NeverFall top (d ∷ ds) = (top ≤ d.Max) × (d.T ≡ 0 → d.Max ≡ top) × NeverFall d.Max ds
 
 abbrev pub last_max : (top : ℕ) → List DayRead → ℕ
 last_max = fold (λ top d. d.Max)
@@ -103,7 +103,7 @@ pub record DaysAddUp (n before top : ℕ) (report : List ℕ) : Type 0 where
   pub add_up : AllByRecursion (AddsUp n) days
   pub never_fall : NeverFall top days
   pub no_day : AllByRecursion Other rest
-  pub all_there : AllByRecursion (Counts (before + days_counted days) (last_max top days)) rest
+  pub all_there : AllByRecursion (FundSays (before + days_counted days) (last_max top days)) rest
 
 -- ---- what was summed is what is read
 
