@@ -1,3 +1,4 @@
+pub mod Accepted
 pub mod Inserted
 pub mod OnlyWithout
 pub mod WithoutLosses
