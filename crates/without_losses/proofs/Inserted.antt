@@ -6,7 +6,7 @@
 use mathlib.Core.Path.{◌≡◌, refl, sym, ap, subst, ◌∙◌, fun_ext}
 use mathlib.Core.Bool.{Bool, true, false, not, ◌||◌}
 use mathlib.Core.List.{List, [], ◌∷◌, ◌++◌, flat_map}
-use Prim.Native.Nat.{ℕ, ◌<◌}
+use Prim.Native.Nat.{ℕ, ◌<◌, ◌≤◌}
 use native.Mathlib.Omega.{arith}
 use lib.Dec.{leb}
 use borrow.Author.Tests.{leb-true, leb-false}
@@ -27,16 +27,24 @@ use Rattle.methodology.proofs.Counted.{counted_skip, counted_append, counted_aga
 use Rattle.methodology.proofs.SoFar.{reported_is_m}
 use Rattle.methodology.proofs.Enough.{rises}
 use Rattle.exposure.proofs.MaxTotal.{highest_counted}
-use Rattle.without_losses.specs.Inserted.{SameFigures, AcceptedWithout, next_of, next_number, BelowNext, Unmoved, same, by_number, Unchanged}
+use Rattle.without_losses.specs.Inserted.{SameFigures, AcceptedWithout, next_of, next_number, BelowNext, SameOr3, same, by_number, EachSameOr3}
 
 -- ---- days
 
 -- M is that of the days that count, so all figures go by these days
 pub same_figures : (o : Opening) (days days' : List KeptDay) → counted o days ≡ counted o days' → SameFigures o days days'
-unfolding raw sum_of_shares exact_charge
+unfolding raw sum_of_shares exact_charge contributions total_funded
 same_figures o days days' counted_same =
     let m_same : highest o days ≡ highest o days' = sym (highest_counted o days) ∙ ap (highest o) counted_same ∙ highest_counted o days' in
-    record { counted_same = counted_same; m_same = m_same; raw_same = λ m. rw (counted_same, m_same); exact_same = λ m. rw (counted_same, m_same) }
+    let raw_same : (m : ℕ) → raw o days m ≡ raw o days' m = λ m. rw (counted_same, m_same) in
+    record {
+      counted_same = counted_same;
+      m_same = m_same;
+      exact_same = λ m. rw (counted_same, m_same);
+      raw_same = raw_same;
+      contributions_same = ap (λ (r : ℕ → ℕ). flat_map (λ m. three (r m)) (members o.n)) (fun_ext raw_same);
+      funded_same = ap (λ (r : ℕ → ℕ). Σ (members o.n) (λ m. funded (r m))) (fun_ext raw_same);
+    }
 
 -- the days that do not count may be left out
 pub left_out : (o : Opening) (days : List KeptDay) → SameFigures o days (counted o days)
@@ -62,75 +70,78 @@ module _ (s : Status) (o : Opening) {days days' : List KeptDay} (f : SameFigures
   reported_same = reported_is_m o days ∙ f.m_same ∙ sym (reported_is_m o days')
 
   pub returned_same : (c : Call) → returned (kept s o days) c ≡ returned (kept s o days') c
-  unfolding returned total_funded
+  unfolding returned
   returned_same (Call.opening o') = refl
   returned_same (Call.day d room) = rw reported_same
-  returned_same (Call.closing room) =
-      let funds : total_funded o days ≡ total_funded o days' = ap (λ (r : ℕ → ℕ). Σ (members o.n) (λ m. funded (r m))) (fun_ext f.raw_same) in
-      rw (f.counted_same, f.m_same, funds)
+  returned_same (Call.closing room) = rw (f.counted_same, f.m_same, f.funded_same)
 
   pub written_same : (c : Call) → written (kept s o days) c ≡ written (kept s o days') c
-  unfolding written contributions
+  unfolding written
   written_same (Call.opening o') = refl
   written_same (Call.day d room) = rw reported_same
-  written_same (Call.closing room) = ap (λ (r : ℕ → ℕ). flat_map (λ m. three (r m)) (members o.n)) (fun_ext f.raw_same)
+  written_same (Call.closing room) = f.contributions_same
 
 -- ---- refusals
 
--- what the table says of a call without the day, and with it: both accept it, or both refuse it
-abbrev Alike : (without with : Verdict) → Type 0
-Alike (Ok _) (Ok _) = Unit {0}
-Alike (Ok _) (Err met) = ⊥
-Alike (Err met) (Ok _) = ⊥
-Alike (Err met) (Err met') = Unmoved (refused_by met) (refused_by met')
+-- What the table says of a call without the day that has this number, and with it: both accept it, or both refuse it.
+abbrev Alike : (number : ℕ) → Call → (without with : Verdict) → Type 0
+Alike number c (Ok _) (Ok _) = Unit {0}
+Alike number c (Ok _) (Err met) = ⊥
+Alike number c (Err met) (Ok _) = ⊥
+Alike number c (Err met) (Err met') = SameOr3 number c (refused_by met) (refused_by met')
 
-alike_refl : (x : Verdict) → Alike x x
-alike_refl (Ok _) = tt
-alike_refl (Err met) = same
+alike_refl : (number : ℕ) (c : Call) (x : Verdict) → Alike number c x x
+alike_refl number c (Ok _) = tt
+alike_refl number c (Err met) = same
 
--- a row with a condition of its own comes first
-row_alike : {P : Type 0} (met : Refusal) (b : Bool) (x y : Verdict) → (row met when b else x ≡ clear → P) → ((x ≡ clear → P) → Alike x y)
-    → Alike (row met when b else x) (row met when b else y)
-unfolding row◌when◌else◌
-row_alike met true x y f h = same
-row_alike met false x y f h = h f
+-- a day call, while the day that was put in is the last accepted one, and its number the last
+module _ (last' : ℕ) (d : DayInput) (room : ℕ) where
+  abbrev DayAlike : (without with : Verdict) → Type 0
+  DayAlike = Alike last' (Call.day d room)
 
--- row 3 comes first, by one last number or a later one; the rows after it have an index, and a day that they pass is above both
-Indexed : Verdict → Type 0
-Indexed (Ok _) = Unit {0}
-Indexed (Err met) = Unmoved (refused_by met) (refused 3)
+  -- a row with a condition of its own comes first
+  row_alike : {P : Type 0} (met : Refusal) (b : Bool) (x y : Verdict) → (row met when b else x ≡ clear → P) → ((x ≡ clear → P) → DayAlike x y)
+      → DayAlike (row met when b else x) (row met when b else y)
+  unfolding row◌when◌else◌
+  row_alike met true x y f h = same
+  row_alike met false x y f h = h f
 
-number_alike : (last last' number : ℕ) (x : Verdict) → last < last' → Indexed x
-    → (row BadDayNumber when bad_day_number last number else x ≡ clear → last' < number)
-    → Alike (row BadDayNumber when bad_day_number last number else x) (row BadDayNumber when bad_day_number last' number else x)
-unfolding row◌when◌else◌ bad_day_number Indexed
-number_alike last last' number x h = by (outside 1 31 number) (leb number last) (leb number last') refl refl x
-  where
-    by : (out low low' : Bool) → leb number last ≡ low → leb number last' ≡ low' → (x : Verdict) → Indexed x
-        → (row BadDayNumber when out || low else x ≡ clear → last' < number)
-        → Alike (row BadDayNumber when out || low else x) (row BadDayNumber when out || low' else x)
-    by true low low' e e' x i f = same
-    by false true true e e' x i f = same
-    by false true false e e' x i f = absurd (omega (arith, leb-true number last e, leb-false number last' e'))
-    by false false false e e' x i f = alike_refl x
-    by false false true e e' (Ok _) i f = absurd (omega (arith, f refl, leb-true number last' e'))
-    by false false true e e' (Err met) i f = i
+  -- row 3 comes first, by one last number or a later one; the rows after it have an index, and a day that they pass is above both
+  Indexed : Verdict → Type 0
+  Indexed (Ok _) = Unit {0}
+  Indexed (Err met) = d.terms.number ≤ last' → SameOr3 last' (Call.day d room) (refused_by met) (refused 3)
 
-indexed : (i j : ℕ) (b c : Bool) → Indexed (row (BadHeading i) when b else row (BadAmount j) when c else clear)
-unfolding row◌when◌else◌ Indexed
-indexed i j true c = by_number
-indexed i j false true = by_number
-indexed i j false false = tt
+  number_alike : (last : ℕ) (x : Verdict) → last < last' → Indexed x
+      → (row BadDayNumber when bad_day_number last d.terms.number else x ≡ clear → last' < d.terms.number)
+      → DayAlike (row BadDayNumber when bad_day_number last d.terms.number else x) (row BadDayNumber when bad_day_number last' d.terms.number else x)
+  unfolding row◌when◌else◌ bad_day_number Indexed
+  number_alike last x h = by (outside 1 31 d.terms.number) (leb d.terms.number last) (leb d.terms.number last') refl refl x
+    where
+      by : (out low low' : Bool) → leb d.terms.number last ≡ low → leb d.terms.number last' ≡ low' → (x : Verdict) → Indexed x
+          → (row BadDayNumber when out || low else x ≡ clear → last' < d.terms.number)
+          → DayAlike (row BadDayNumber when out || low else x) (row BadDayNumber when out || low' else x)
+      by true low low' e e' x i f = same
+      by false true true e e' x i f = same
+      by false true false e e' x i f = absurd (omega (arith, leb-true d.terms.number last e, leb-false d.terms.number last' e'))
+      by false false false e e' x i f = alike_refl last' (Call.day d room) x
+      by false false true e e' (Ok _) i f = absurd (omega (arith, f refl, leb-true d.terms.number last' e'))
+      by false false true e e' (Err met) i f = i (leb-true d.terms.number last' e')
 
--- a day, by one last number or a later one, which is still below its own if it is accepted
-day_alike : (s : Status) (o : Opening) (last last' : ℕ) (d : DayInput) (room : ℕ) → last < last'
-    → (day_refusal s o last d room ≡ clear → last' < d.terms.number) → Alike (day_refusal s o last d room) (day_refusal s o last' d room)
-unfolding day_refusal day_rows account_rows
-day_alike s o last last' d room h f =
-    row_alike OutOfTurn (not (is_open s)) _ _ f
-    (λ f. row_alike BadLengths (bad_output o room) _ _ f
-    (λ f. row_alike BadLengths (bad_input o d) _ _ f
-    (number_alike last last' d.terms.number (account_rows o d) h (indexed _ _ _ _))))
+  indexed : (i j : ℕ) (b c : Bool) → Indexed (row (BadHeading i) when b else row (BadAmount j) when c else clear)
+  unfolding row◌when◌else◌ Indexed
+  indexed i j true c = by_number
+  indexed i j false true = by_number
+  indexed i j false false = tt
+
+  -- a day, by one last number or a later one, which is still below its own if it is accepted
+  day_alike : (s : Status) (o : Opening) (last : ℕ) → last < last' → (day_refusal s o last d room ≡ clear → last' < d.terms.number)
+      → DayAlike (day_refusal s o last d room) (day_refusal s o last' d room)
+  unfolding day_refusal day_rows account_rows
+  day_alike s o last h f =
+      row_alike OutOfTurn (not (is_open s)) _ _ f
+      (λ f. row_alike BadLengths (bad_output o room) _ _ f
+      (λ f. row_alike BadLengths (bad_input o d) _ _ f
+      (number_alike last (account_rows o d) h (indexed _ _ _ _))))
 
 -- ---- calls
 
@@ -151,26 +162,26 @@ none_closed number o days (Call.day d room ∷ cs) = none_closed number o days c
 none_closed number o days (Call.closing room ∷ cs) = none_closed number o days cs
 
 -- where the registers are the same
-unchanged_refl : (g : Register) (cs : List Call) → Unchanged g g cs
-unchanged_refl g [] = tt
-unchanged_refl g (c ∷ cs) = (same, (λ before. refl), unchanged_refl (step g c) cs)
+each_refl : (number : ℕ) (g : Register) (cs : List Call) → EachSameOr3 number g g cs
+each_refl number g [] = tt
+each_refl number g (c ∷ cs) = (same, (λ before. refl), each_refl number (step g c) cs)
 
 -- one call in front: what it gives if it is accepted is the same
-one_more : (g g' : Register) (c : Call) (cs : List Call) → Alike (refusal g c) (refusal g' c)
+one_more : (number : ℕ) (g g' : Register) (c : Call) (cs : List Call) → Alike number c (refusal g c) (refusal g' c)
     → returned (accept g c) c ≡ returned (accept g' c) c → written (accept g c) c ≡ written (accept g' c) c
-    → (refusal g c ≡ clear → Unchanged (accept g c) (accept g' c) cs) → ((met : Refusal) → refusal g c ≡ Err met → Unchanged g g' cs)
-    → Unchanged g g' (c ∷ cs)
+    → (refusal g c ≡ clear → EachSameOr3 number (accept g c) (accept g' c) cs) → ((met : Refusal) → refusal g c ≡ Err met → EachSameOr3 number g g' cs)
+    → EachSameOr3 number g g' (c ∷ cs)
 unfolding step
-one_more g g' c cs a r w after stays =
+one_more number g g' c cs a r w after stays =
     rw (answer_is g c, answer_is g' c, fun_ext (buffer_is g c), fun_ext (buffer_is g' c), r, w) (by (refusal g c) (refusal g' c) a after stays)
   where
-    by : (x y : Verdict) → Alike x y
-        → (x ≡ clear → Unchanged (accept g c) (accept g' c) cs) → ((met : Refusal) → x ≡ Err met → Unchanged g g' cs)
+    by : (x y : Verdict) → Alike number c x y
+        → (x ≡ clear → EachSameOr3 number (accept g c) (accept g' c) cs) → ((met : Refusal) → x ≡ Err met → EachSameOr3 number g g' cs)
         → let figures = returned (accept g' c) c in
         let numbers = written (accept g' c) c in
-        Unmoved (answer_by x figures) (answer_by y figures)
+        SameOr3 number c (answer_by x figures) (answer_by y figures)
         × ((before : List ℕ) → if_accepted x numbers before ≡ if_accepted y numbers before)
-        × Unchanged (if_accepted x (accept g c) g) (if_accepted y (accept g' c) g') cs
+        × EachSameOr3 number (if_accepted x (accept g c) g) (if_accepted y (accept g' c) g') cs
     by (Ok _) (Ok _) a after stays = (same, (λ before. refl), after refl)
     by (Ok _) (Err met) a after stays = absurd a
     by (Err met) (Ok _) a after stays = absurd a
@@ -212,34 +223,34 @@ module _ (o : Opening) (x : KeptDay) (earlier : List KeptDay) (none : total o x.
   call_more : (s : Status) (later : List KeptDay) (c : Call) (cs : List Call)
       → let g = without s later in
       let g' = with s later in
-      Fits later (next_number g (c ∷ cs)) → Alike (refusal g c) (refusal g' c)
-      → (Fits later (next_of c) → Unchanged (accept g c) (accept g' c) cs)
-      → (Fits later (next_number g cs) → Unchanged g g' cs)
-      → Unchanged g g' (c ∷ cs)
+      Fits later (next_number g (c ∷ cs)) → Alike x.number c (refusal g c) (refusal g' c)
+      → (Fits later (next_of c) → EachSameOr3 x.number (accept g c) (accept g' c) cs)
+      → (Fits later (next_number g cs) → EachSameOr3 x.number g g' cs)
+      → EachSameOr3 x.number g g' (c ∷ cs)
   call_more s later c cs fits a after stays =
       let g = without s later in
       let (r, w) = same_after s later c in
-      one_more g (with s later) c cs a r w
+      one_more x.number g (with s later) c cs a r w
       (λ e. after (subst (Fits later) (next_accepted g c cs e) fits)) (λ met e. stays (subst (Fits later) (next_refused g c cs met e) fits))
 
-  unchanged : (s : Status) (later : List KeptDay) (cs : List Call) → Fits later (next_number (without s later) cs)
-      → Unchanged (without s later) (with s later) cs
+  each_same : (s : Status) (later : List KeptDay) (cs : List Call) → Fits later (next_number (without s later) cs)
+      → EachSameOr3 x.number (without s later) (with s later) cs
   unfolding refusal accept
-  unchanged s later [] fits = tt
-  unchanged s later (Call.opening o' ∷ cs) fits =
-      call_more s later (Call.opening o') cs fits (alike_refl _) (λ fits. unchanged_refl _ cs) (unchanged s later cs)
-  unchanged s [] (Call.day d room ∷ cs) fits =
+  each_same s later [] fits = tt
+  each_same s later (Call.opening o' ∷ cs) fits =
+      call_more s later (Call.opening o') cs fits (alike_refl x.number _ _) (λ fits. each_refl x.number _ cs) (each_same s later cs)
+  each_same s [] (Call.day d room ∷ cs) fits =
       call_more s [] (Call.day d room) cs fits
-      (day_alike s o (last_number earlier) x.number d room above (λ e. subst (Fits []) (next_accepted (without s []) (Call.day d room) cs e) fits))
-      (λ fits. unchanged s (kept_day o d ∷ []) cs tt) (unchanged s [] cs)
-  unchanged s (y ∷ later) (Call.day d room ∷ cs) fits =
-      call_more s (y ∷ later) (Call.day d room) cs fits (alike_refl _) (unchanged s (kept_day o d ∷ y ∷ later) cs) (unchanged s (y ∷ later) cs)
-  unchanged s later (Call.closing room ∷ cs) fits =
-      call_more s later (Call.closing room) cs fits (alike_refl _) (λ fits. unchanged Closed later cs (fits_closed later cs)) (unchanged s later cs)
+      (day_alike x.number d room s o (last_number earlier) above (λ e. subst (Fits []) (next_accepted (without s []) (Call.day d room) cs e) fits))
+      (λ fits. each_same s (kept_day o d ∷ []) cs tt) (each_same s [] cs)
+  each_same s (y ∷ later) (Call.day d room ∷ cs) fits =
+      call_more s (y ∷ later) (Call.day d room) cs fits (alike_refl x.number _ _) (each_same s (kept_day o d ∷ y ∷ later) cs) (each_same s (y ∷ later) cs)
+  each_same s later (Call.closing room ∷ cs) fits =
+      call_more s later (Call.closing room) cs fits (alike_refl x.number _ _) (λ fits. each_same Closed later cs (fits_closed later cs)) (each_same s later cs)
 
 pub inserted : (g : Register) (d : DayInput) (room : ℕ) (calls : List Call) → AcceptedWithout g d room → BelowNext d.terms.number (next_number g calls)
-    → Unchanged g (step g (Call.day d room)) calls
+    → EachSameOr3 d.terms.number g (step g (Call.day d room)) calls
 unfolding accept
 inserted g d room calls a below =
     rw (step_clear g (Call.day d room) a.passes)
-    (unchanged g.held (kept_day g.held d) g.days a.no_loss (rises g d room a.passes).0 g.status [] calls below)
+    (each_same g.held (kept_day g.held d) g.days a.without (rises g d room a.passes).0 g.status [] calls below)

@@ -2,22 +2,28 @@
 -- alone is one without days; and what a day put in changes (Inserted.antt). By demand 3 so it is in every list of calls. With it the claim is
 -- whole: `without_losses`.
 use mathlib.Core.Path.{◌≡◌, refl, sym, ap, subst, ◌∙◌}
-use mathlib.Core.Bool.{false}
+use mathlib.Core.Bool.{Bool, true, false, not, ◌||◌}
 use mathlib.Core.List.{List, [], ◌∷◌, ◌++◌, map, map-append, map-map, append_assoc, flat_map}
-use Prim.Native.Nat.{ℕ, ◌+◌, ◌≤◌}
+use Prim.Native.Nat.{ℕ, ◌+◌, ◌*◌, ◌≤◌}
 use native.Mathlib.Omega.{arith}
-use lib.ListN.{length}
+use lib.Dec.{leb}
+use lib.ListN.{length, get_or, drop}
+use borrow.Author.Tests.{le-leb, eq-eqb, not-false}
+use Rattle.std.proofs.Math.Bool.{or-true}
 use Rattle.std.specs.List.{fold, range_with_len}
 use Rattle.std.proofs.lemmas.List.Folds.{fold-map}
 use Rattle.std.proofs.lemmas.List.Sums.{fold-append}
 use Rattle.numbers.proofs.Lists.{map_eq, range_mem}
+use Rattle.methodology.specs.declared.Status.TheVariants.{Open}
+use Rattle.methodology.specs.declared.Refusal.TheVariants.{OutOfTurn}
 use Rattle.methodology.specs.declared.Opening.{Opening}
 use Rattle.methodology.specs.Account.{DayInput, Account, members}
 use Rattle.methodology.specs.Member.{loss}
 use Rattle.methodology.specs.Day.{total, five, dailies}
 use Rattle.methodology.specs.Contribution.{KeptDay, reported_max_eul, highest, counts}
-use Rattle.methodology.specs.Register.{Call, Register, start, accept, step, returned, written, accepted, answer, buffer}
-use Rattle.methodology.proofs.Passed.{step_clear}
+use Rattle.methodology.specs.Refusals.{clear, row◌when◌else◌, is_open, outside, bad_input, bad_day_number, day_rows, day_refusal}
+use Rattle.methodology.specs.Register.{Call, Register, start, refusal, accept, step, returned, written, accepted, refused, answer, buffer}
+use Rattle.methodology.proofs.Passed.{passed, step_clear}
 use Rattle.methodology.proofs.Counted.{counted_skip, sum_skip}
 use Rattle.methodology.proofs.SoFar.{reported_is_m}
 use Rattle.exposure.proofs.MaxTotal.{loss_le_total, own_none, highest_skip, highest_counted}
@@ -25,12 +31,16 @@ use Rattle.period.specs.Calls.{with_accrued}
 use Rattle.period.specs.Registered.{sum_at, period_of}
 use Rattle.period.proofs.ByFields.{by_fields}
 use Rattle.demand3.specs.Made.{Asked, Made, lent, call_of}
-use Rattle.demand3.specs.Demand3.{Holds, register_after}
-use Rattle.demand3.proofs.EveryList.{last_agrees}
+use Rattle.demand3.specs.Demand3.{Agrees, Holds, register_after}
+use Rattle.demand3.proofs.EveryList.{holds_from, last_agrees}
 use Rattle.demand3.proofs.Demand3.{made_of}
+use Rattle.answers.proofs.RefusalRows.{is_clear}
+use Rattle.not_begun.specs.NotBegun.{AsNotBegun}
+use Rattle.not_begun.proofs.NotBegun.{not_begun}
+use Rattle.not_begun.proofs.NeverOccurs.{number_7_never_occurs}
 use Rattle.demand3.proofs.Demand3Proved.{demand_3, compiled_holds}
-use Rattle.without_losses.specs.Inserted.{AcceptedWithout, Unmoved, Unchanged}
-use Rattle.without_losses.specs.WithoutLosses.{with_last, NothingLost, AllWithout, without_days, Closes, calls_of, asked_of, PutIn, Alike, WithoutLosses}
+use Rattle.without_losses.specs.Inserted.{AcceptedWithout, SameOr3, EachSameOr3}
+use Rattle.without_losses.specs.WithoutLosses.{with_last, DayWithout, AllWithout, days_dropped, Closes, calls_of, MadeSameOr3, EachMadeSameOr3, PutIn, WithoutLosses}
 use Rattle.without_losses.proofs.Inserted.{left_out, days_inserted, kept_day, inserted}
 use Rattle.without_losses.proofs.OnlyWithout.{as_not_begun}
 
@@ -50,29 +60,46 @@ module _ (g : Register) (d : DayInput) (room : ℕ) (s : AcceptedWithout g d roo
   left = step_clear g call s.passes
 
   reports : reported_max_eul g.held (kept ∷ g.days) ≡ highest g.held g.days
-  reports = reported_is_m g.held (kept ∷ g.days) ∙ highest_skip g.held kept g.days s.no_loss
+  reports = reported_is_m g.held (kept ∷ g.days) ∙ highest_skip g.held kept g.days s.without
 
   says : answer g call ≡ accepted (0 ∷ highest g.held g.days ∷ [])
   unfolding answer accept returned
-  says = rw (s.passes, left, s.no_loss, reports)
+  says = rw (s.passes, left, s.without, reports)
 
   writes : (before : List ℕ) → buffer g call before ≡ flat_map (λ m. 0 ∷ 0 ∷ 0 ∷ 0 ∷ 0 ∷ []) (members g.held.n)
   unfolding buffer accept written dailies five
-  writes before = rw (s.passes, left, s.no_loss) refl
+  writes before = rw (s.passes, left, s.without) refl
 
   leaves : period_of (step g call) ≡ with_last d.terms.number (period_of g)
   unfolding period_of accept
   leaves =
-      let out-of-d : counts (total g.held kept.accounts) ≡ false = rw s.no_loss refl in
+      let out-of-d : counts (total g.held kept.accounts) ≡ false = rw s.without refl in
       rw left
       (ap (with_accrued (period_of g))
-      (by_fields refl (ap length (counted_skip g.held kept g.days out-of-d)) (highest_skip g.held kept g.days s.no_loss)
+      (by_fields refl (ap length (counted_skip g.held kept g.days out-of-d)) (highest_skip g.held kept g.days s.without)
       (map_eq (sum_at g.held (kept ∷ g.days)) (sum_at g.held g.days) (range_with_len 0 32) (λ i m. rw (sum_skip g.held kept g.days (i + 1) out-of-d) refl))))
+
+-- the next number has to be above its own
+number_counts : (g : Register) (d : DayInput) (room : ℕ) → AcceptedWithout g d room
+    → (e : DayInput) → bad_input g.held e ≡ false → e.terms.number ≤ d.terms.number
+    → answer (step g (Call.day d room)) (Call.day e (5 * g.held.n)) ≡ refused 3
+unfolding answer refusal accept day_refusal day_rows bad_day_number row◌when◌else◌
+number_counts g d room s e input low =
+    let opened : is_open g.status ≡ true = not-false _ (passed OutOfTurn (not (is_open g.status)) _ s.passes).0 in
+    rw (
+      left g d room s,
+      opened,
+      eq-eqb (5 * g.held.n) (5 * g.held.n) refl,
+      input,
+      le-leb e.terms.number d.terms.number low,
+      or-true (outside 1 31 e.terms.number),
+    )
+    refl
 
 -- ---- the last call of a list of which demand 3 holds
 
 of_day : (cs : List Made) (c : Made) (d : DayInput) (out : List ℕ) → Holds start (cs ++ (c ∷ [])) → c.asked ≡ Asked.day d out
-    → AcceptedWithout (register_after start cs) d (length out) → NothingLost (register_after start cs) d c
+    → AcceptedWithout (register_after start cs) d (length out) → DayWithout (register_after start cs) d c
 of_day cs c d out holds is s =
     let g = register_after start cs in
     let agreed = last_agrees start cs c holds in
@@ -83,11 +110,19 @@ of_day cs c d out holds is s =
     }
 
 of_closing : (cs : List Made) (c : Made) (out : List ℕ) → Holds start (cs ++ (c ∷ [])) → c.asked ≡ Asked.closing out
-    → AllWithout (register_after start cs) → Closes (without_days (register_after start cs)) out c.answer c.after
+    → AllWithout (register_after start cs) → Closes (days_dropped (register_after start cs)) out c.answer c.after
 of_closing cs c out holds is all =
     let agreed = last_agrees start cs c holds in
     let (answers, writes) = as_not_begun (register_after start cs) (length out) out all in
     (agreed.answer ∙ rw is answers, agreed.buffer ∙ rw is writes)
+
+closing_figures : (cs : List Made) (c : Made) (out : List ℕ) → Holds start (cs ++ (c ∷ [])) → c.asked ≡ Asked.closing out
+    → AllWithout (register_after start cs) → (register_after start cs).status ≡ Open → length out ≡ 3 * (register_after start cs).held.n
+    → AsNotBegun (register_after start cs).held.n c.answer c.after
+closing_figures cs c out holds is all opened long =
+    let (answers, writes) = of_closing cs c out holds is all in
+    let none = (not_begun.closes (days_dropped (register_after start cs)) out (record { opened = opened; none = refl }) long).0 in
+    record { says = answers ∙ none.says; writes = writes ∙ none.writes }
 
 -- ---- a day put in
 
@@ -98,59 +133,76 @@ fed = fold step
 as_fed : (g : Register) (cs : List Made) → register_after g cs ≡ fed g (calls_of cs)
 as_fed g cs = sym (fold-map step (λ c. call_of c.asked) g cs)
 
-calls_same : (cs cs' : List Made) → asked_of cs ≡ asked_of cs' → calls_of cs ≡ calls_of cs'
-calls_same cs cs' e = sym (map-map call_of (λ c. c.asked) cs) ∙ ap (map call_of) e ∙ map-map call_of (λ c. c.asked) cs'
+-- what an accepted call leaves does not go by what its buffer held
+written_over : (g : Register) (c : Call) (before before' : List ℕ) → refusal g c ≡ clear → buffer g c before ≡ buffer g c before'
+unfolding buffer
+written_over g c before before' passes = rw passes refl
 
--- what a call changes that comes after others
-at_last : (g g' : Register) (calls : List Call) (last : Call) → Unchanged g g' (calls ++ (last ∷ []))
-    → let now = fed g calls in
-    let with = fed g' calls in
-    Unmoved (answer now last) (answer with last) × ((before : List ℕ) → buffer now last before ≡ buffer with last before)
-at_last g g' [] last (unmoved, buffers, _) = (unmoved, buffers)
-at_last g g' (b ∷ calls) last (_, _, u) = at_last (step g b) (step g' b) calls last u
+-- two calls of two lists that agree with these registers
+one_made : (number : ℕ) (g g' : Register) (c c' : Made) → call_of c.asked ≡ call_of c'.asked
+    → SameOr3 number (call_of c.asked) (answer g (call_of c.asked)) (answer g' (call_of c.asked))
+    → ((before : List ℕ) → buffer g (call_of c.asked) before ≡ buffer g' (call_of c.asked) before)
+    → Agrees g c → Agrees g' c' → MadeSameOr3 number c c'
+unfolding answer
+one_made number g g' c c' asked said wrote agreed agreed' =
+    let call = call_of c.asked in
+    let passes : (figures : List ℕ) → c.answer ≡ accepted figures → refusal g call ≡ clear =
+    λ figures is. (is_clear (refusal g call) _ figures (sym agreed.answer ∙ is)).0 in
+    record {
+      answers = rw (agreed.answer, agreed'.answer, sym asked) said;
+      writes =
+          λ figures is.
+          agreed.buffer ∙ written_over g call (lent c.asked) (lent c'.asked) (passes figures is) ∙ wrote (lent c'.asked)
+          ∙ ap (λ (call : Call). buffer g' call (lent c'.asked)) asked ∙ sym agreed'.buffer;
+    }
 
-of_list : (earlier later : List Made) (c : Made) (earlier' : List Made) (x : Made) (later' : List Made) (c' : Made)
-    → Holds start (earlier ++ (later ++ (c ∷ []))) → Holds start (earlier' ++ (x ∷ later' ++ (c' ∷ [])))
-    → PutIn earlier later c earlier' x later' c' → Alike c c'
-of_list earlier later c earlier' x later' c' without with p =
+each_made : (number : ℕ) (g g' : Register) (cs cs' : List Made) → calls_of cs ≡ calls_of cs' → EachSameOr3 number g g' (calls_of cs)
+    → Holds g cs → Holds g' cs' → EachMadeSameOr3 number cs cs'
+each_made number g g' [] [] e u h h' = tt
+each_made number g g' [] (c' ∷ cs') e u h h' = let long = ap length e in absurd (omega (arith, long))
+each_made number g g' (c ∷ cs) [] e u h h' = let long = ap length e in absurd (omega (arith, long))
+each_made number g g' (c ∷ cs) (c' ∷ cs') e (said, wrote, more) (agreed, _, h) (agreed', _, h') =
+    let asked : call_of c.asked ≡ call_of c'.asked = ap (λ (l : List Call). get_or l 0 (call_of c.asked)) e in
+    let later = subst (λ (call : Call). EachSameOr3 number (step g (call_of c.asked)) (step g' call) (calls_of cs)) asked more in
+    (one_made number g g' c c' asked said wrote agreed agreed', each_made number (step g (call_of c.asked)) (step g' (call_of c'.asked)) cs cs' (ap (drop 1) e) later h h')
+
+of_list : (earlier later earlier' : List Made) (x : Made) (later' : List Made) → Holds start (earlier ++ later) → Holds start (earlier' ++ (x ∷ later'))
+    → (p : PutIn earlier later earlier' x later') → EachMadeSameOr3 p.d.terms.number later later'
+of_list earlier later earlier' x later' without with p =
     let g = register_after start earlier in
     let g' = register_after start earlier' in
     let day = Call.day p.d (length p.out) in
-    let agreed = last_agrees start (earlier ++ later) c (subst (Holds start) (sym (append_assoc earlier later (c ∷ []))) without) in
-    let agreed' = last_agrees start (earlier' ++ (x ∷ later')) c' (subst (Holds start) (sym (append_assoc earlier' (x ∷ later') (c' ∷ []))) with) in
-    let same : g' ≡ g = as_fed start earlier' ∙ ap (fed start) (sym (calls_same _ _ p.same_earlier)) ∙ sym (as_fed start earlier) in
-    let now : register_after start (earlier ++ later) ≡ fed g (calls_of later) = fold-append _ start earlier later ∙ as_fed g later in
-    let then : register_after start (earlier' ++ (x ∷ later')) ≡ fed (step g day) (calls_of later) =
-    fold-append _ start earlier' (x ∷ later') ∙ as_fed (step g' (call_of x.asked)) later' ∙ rw (same, p.x_is, calls_same later later' p.same_later) refl in
-    let put = inserted g p.d (length p.out) (calls_of (later ++ (c ∷ []))) p.accepted_without p.below_next in
-    let (unmoved, buffers) = at_last g (step g day) (calls_of later) (call_of c.asked) (subst (Unchanged g (step g day)) (map-append _ later (c ∷ [])) put) in
-    (rw (agreed.answer, agreed'.answer, now, then, sym p.same_last) unmoved, rw (agreed.buffer, agreed'.buffer, now, then, sym p.same_last) (buffers (lent c.asked)))
+    let same : g' ≡ g = as_fed start earlier' ∙ ap (fed start) (sym p.same_earlier) ∙ sym (as_fed start earlier) in
+    let (_, _, after) = holds_from start earlier' (x ∷ later') with in
+    let put : step g' (call_of x.asked) ≡ step g day = rw (same, p.x_is) refl in
+    each_made p.d.terms.number g (step g day) later later' p.same_later (inserted g p.d (length p.out) (calls_of later) p.accepted_without p.below_next)
+    (holds_from start earlier later without) (subst (λ (g : Register). Holds g later') put after)
 
 -- ---- the claim
 
 pub without_losses : WithoutLosses
 without_losses =
     record {
+      day_accepted = {!!};
       losses_none = losses_none;
       own_none = own_none;
-      m_is_the_same = highest_counted;
-      left_out = left_out;
       day = λ cs c d out made. of_day cs c d out (demand_3.every_list (cs ++ (c ∷ [])) made);
+      number_counts = number_counts;
+      m_of_counted = highest_counted;
+      left_out = left_out;
       closes = λ g before all. as_not_begun g (length before) before all;
       closing = λ cs c out made. of_closing cs c out (demand_3.every_list (cs ++ (c ∷ [])) made);
+      closing_figures = λ cs c out made. closing_figures cs c out (demand_3.every_list (cs ++ (c ∷ [])) made);
       put_in = days_inserted;
       inserted = inserted;
       every_list =
-          λ earlier later c earlier' x later' c' without with.
-          of_list earlier later c earlier' x later' c' (demand_3.every_list (earlier ++ (later ++ (c ∷ []))) without)
-          (demand_3.every_list (earlier' ++ (x ∷ later' ++ (c' ∷ []))) with);
+          λ earlier later earlier' x later' without with.
+          of_list earlier later earlier' x later' (demand_3.every_list (earlier ++ later) without) (demand_3.every_list (earlier' ++ (x ∷ later')) with);
+      number_7 = number_7_never_occurs;
       compiled_day = λ 𝓛 mem run cs c d out from. of_day (map made_of cs) (made_of c) d out (compiled_holds 𝓛 mem run cs (c ∷ []) from);
       compiled_closing = λ 𝓛 mem run cs c out from. of_closing (map made_of cs) (made_of c) out (compiled_holds 𝓛 mem run cs (c ∷ []) from);
       compiled_list =
-          λ 𝓛 mem run earlier later c earlier' x later' c' without with.
-          let holds = compiled_holds 𝓛 mem run earlier (later ++ (c ∷ [])) without in
-          let holds' = compiled_holds 𝓛 mem run earlier' (x ∷ later' ++ (c' ∷ [])) with in
-          of_list (map made_of earlier) (map made_of later) (made_of c) (map made_of earlier') (made_of x) (map made_of later') (made_of c')
-          (subst (λ (l : List Made). Holds start (map made_of earlier ++ l)) (map-append made_of later (c ∷ [])) holds)
-          (subst (λ (l : List Made). Holds start (map made_of earlier' ++ l)) (map-append made_of (x ∷ later') (c' ∷ [])) holds');
+          λ 𝓛 mem run earlier later earlier' x later' without with.
+          of_list (map made_of earlier) (map made_of later) (map made_of earlier') (made_of x) (map made_of later')
+          (compiled_holds 𝓛 mem run earlier later without) (compiled_holds 𝓛 mem run earlier' (x ∷ later') with);
     }
