@@ -31,7 +31,7 @@ highest o days = greatest days (λ d. own_max_eul o d.accounts)
 abbrev pub counts : (T : ℕ) → Bool
 counts T = ltb 0 T
 
--- The days that count. "D their number" is the length of this list.
+-- The days that count. D, in document 01 the number of the accepted days, is the length of this list.
 unfoldable pub counted : Opening → List KeptDay → List KeptDay
 counted o days = filter (λ d. counts (total o d.accounts)) days
 

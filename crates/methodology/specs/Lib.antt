@@ -1,4 +1,4 @@
--- Document 01, section by section.
+-- Document 01, section by section, with the requests of document 02 that are in.
 pub mod Account
 pub mod Brought
 pub mod Member

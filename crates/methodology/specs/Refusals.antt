@@ -157,8 +157,8 @@ day_rows o last d =
     row BadDayNumber when bad_day_number last d.terms.number else
     account_rows o d
 
--- "day 2, 4, 3, 5, 6". Row 2: "day [..] while not open". Row 4 is met by the output or by the input. A day without losses is as good as any
--- (Change 4).
+-- Day 2, 4, 3, 5, 6. Row 2: "day [..] while not open". Row 4 is met by the output or by the input. A day without losses, of a T of 0, is as
+-- good as any (Change 4).
 unfoldable pub day_refusal : Status → Opening → (last : ℕ) → DayInput → (room : ℕ) → Verdict
 day_refusal s o last d room =
     row OutOfTurn when not (is_open s) else

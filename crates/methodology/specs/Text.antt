@@ -1,5 +1,5 @@
 -- Document 01, "The month's text": for any bytes, the bytes of the report. What is read makes calls, and the register answers them. By
--- document 02's Change 1 a total stands under each accepted day; by its Change 2 a month may have none.
+-- document 02's Change 1 a total stands under each accepted day; by its Change 2 a month may have no day.
 use Rattle.std.specs.Prelude.{Bool, true, false, not, ◌&&◌, ◌||◌, cond, ℕ, zero, suc, ◌+◌, ◌-◌, ◌*◌, ◌/◌, ◌%◌, ltb, eqb, ℤ, pos, neg_ℤ, length, get_or, take, drop, Ok, Err}
 use mathlib.Core.List.{List, [], ◌∷◌, ◌++◌, flat_map}
 use Rattle.std.specs.Prelude.{Option, None, Some}
@@ -228,7 +228,7 @@ read_day g i (Some ns) =
     cond (count_outside (get_or ns 1 0)) (ends (refused_line BadLengths i))
     (goes_on [] (account g (no_accounts (record { number = get_or ns 0 0 })) i (get_or ns 1 0) 0))
 
--- "the day line for 3, 4 and 7, the account's (or next) line for 5 and 6", which have an index. The first account's line follows the day line.
+-- "the day line for 3, 4 [..], the account's (or next) line for 5 and 6", which have an index. The first account's line follows the day line.
 abbrev pub line_named : (day_line : ℕ) → (index : Option ℕ) → ℕ
 line_named i None = i
 line_named i (Some index) = i + 1 + index
@@ -270,8 +270,8 @@ read_line (account g d at count used) i l =
     cond (ltb 65536 now) (bad i) (read_account g d at count now i (account_of g.held.k l))
 read_line (after_end g at) i l = bad i
 
--- The closing call, made at the end line, which a refusal would name. Since Change 2 there is none: the period is open, and the output 3n
--- long (`closing_clear` in proofs/Reports.antt).
+-- The closing call, made at the end line, which a refusal would name. Since Change 2 none is left: the period is open, and the output 3n long
+-- (`closing_clear` in Reports.antt, among the proofs).
 unfoldable pub closed : Verdict → Register → (line : ℕ) → List ℕ
 closed (Ok _) g i =
     let call = Call.closing (3 * g.held.n) in

@@ -1,4 +1,5 @@
--- Document 02, Change 2: "Number 8 no longer occurs"; Change 4: "Number 7 no longer occurs". `NeverOccurs` is the claim, of any number.
+-- Document 02, Change 2: "Number 8 no longer occurs"; Change 4: "Number 7 no longer occurs". `NeverOccurs` is the claim, of
+-- one number; proved of 7 and of 8 in proofs/NeverOccurs.antt.
 use Rattle.std.specs.Prelude.{◌≡◌, true, List, map, ℕ, Ok, Err, get_or}
 use Rattle.std.specs.List.{AllByRecursion}
 use seplogic.Ra.Ura.{Ura}

@@ -49,7 +49,7 @@ in_range p =
     && not (list_any (ltb (p.accrued.days * scale)) p.accrued.sums)
 
 -- The status that counts. A period that is out of range counts as closed, and so does a fresh one (its n is 0), which no row tells from a
--- closed one. No open period that calls returned is out of range: `status_counts` in proofs/Reach.antt.
+-- closed one. No open period that calls returned is out of range: `status_counts` in Reach.antt, among the proofs.
 abbrev pub status_of : Period → Status
 status_of p = cond (in_range p) p.status Closed
 
@@ -93,8 +93,8 @@ share_at p d i =
 abbrev pub reported_by : Period → DayInput → ℕ
 reported_by p d = max p.accrued.highest (own_max_eul (held_by p) (accounts_brought p d))
 
--- What a period's days come to with one more: the last accepted day number is its own, M is what it reports, and D and the sums take it in
--- where it counts (document 02, Change 4).
+-- What a period's days come to with one more: its number is the last accepted one, its reported Max EUL is M, and where it counts (document
+-- 02, Change 4) D is one more and the sums have its shares.
 abbrev pub taken_in : Accrued → DayTerms → (total reported : ℕ) → (share : (i : ℕ) → ℕ) → Accrued
 taken_in a terms total reported share =
     record {

@@ -12,7 +12,7 @@ pub record Loss (e t : ℕ) : Type 0 where
   pub part : e ≤ t
   pub bounded : t ≤ greatest_total
 
--- the sum s of a member's shares over d days, and the highest Max EUL m of these days, of which there may be none
+-- the sum s of a member's shares over the d days that count, of which there may be none, and M of all days, m
 pub record Charge (m s d : ℕ) : Type 0 where
   pub bounded : m ≤ greatest_total
   pub month : d ≤ 31
