@@ -127,7 +127,7 @@ module _ (most : ℕ) (accts : List Account) (l : (a : Account) → a ∈ accts 
   unfolding member_own
   owns k = members_bound (own_eul k) accts most (λ a m. own_abs (l a m) k)
 
-  total_bound : (o : Opening) → total o accts ≤ 3 * most * length accts
+  pub total_bound : (o : Opening) → total o accts ≤ 3 * most * length accts
   unfolding total loss
   total_bound o = omega (arith, Σ-mono (members o.n) _ _ (λ m i. ⁺-abs (member_own o.k accts m)), owns o.k 1 o.n)
 

@@ -1,38 +1,32 @@
--- A day without losses is accepted as any other (document 02, Change 4): what the rows ask of a day says nothing of its losses (`accepted`).
+-- A day without losses is accepted as any other (document 02, Change 4): what the rows ask of a day says nothing of its losses (`day_accepted`).
 -- And there is one in every open period, under any number above the last, up to 31 (`there_is_one`): each member has its house account
 -- alone, and all amounts are 0. Its accounts are a table over the members, so each row's test and each loss is that of one account.
-use mathlib.Core.Path.{◌≡◌, refl, sym, ap, ◌∙◌}
+use mathlib.Core.Path.{◌≡◌, refl, sym, ◌∙◌}
 use mathlib.Core.Bool.{false}
-use mathlib.Core.List.{List, map}
+use mathlib.Core.List.{map}
 use Prim.Native.Nat.{ℕ, zero, suc, ◌+◌, ◌-◌, ◌*◌, ◌≤◌, ◌<◌}
 use native.Mathlib.Omega.{arith}
 use native.Mathlib.Nat.{mul-le-mul_right}
-use lib.IntN.{ℤ, pos, +ℤ_idr}
+use lib.IntN.{pos}
 use lib.Dec.{eqb}
 use lib.ListN.{length, get_or, replicate}
 use borrow.Author.Tests.{eq-eqb, le-ltb}
-use Rattle.std.specs.List.{filter, range_with_len}
+use Rattle.std.specs.List.{range_with_len}
 use Rattle.std.proofs.lemmas.Bool.Decides.{nat_tests}
 use Rattle.std.proofs.lemmas.List.{length-replicate, drop-replicate, take-replicate}
 use Rattle.std.proofs.lemmas.List.FromFn.{length-map-range_with_len, get_or-map-range_with_len}
 use Rattle.std.proofs.lemmas.List.Sums.{position_or_len_is}
-use Rattle.numbers.specs.Signed.{◌⁺}
-use Rattle.numbers.specs.Lists.{descending}
-use Rattle.numbers.specs.Sums.{Σ}
-use Rattle.numbers.specs.Rounding.{ceil_div}
-use Rattle.numbers.proofs.Lists.{◌∈◌, by_index, mem_at, replicate_at, is_table, mem_keep, keep_none, none_any, any_found, every_mem, every_map}
-use Rattle.numbers.proofs.Sums.{Σ-zero, Σℤ-⁺, greatest_le}
+use Rattle.numbers.proofs.Lists.{◌∈◌, by_index, mem_at, replicate_at, is_table, none_any, any_found, every_mem, every_map}
 use Rattle.methodology.specs.declared.Status.TheVariants.{Open}
 use Rattle.methodology.specs.declared.Opening.{Opening}
 use Rattle.methodology.specs.declared.Heading.{Heading}
-use Rattle.methodology.specs.Account.{DayInput, Account, account_at, accounts, members, scenarios, nobody, kind_h, decrease, eul_of, largest_decrease, own_eul}
-use Rattle.methodology.specs.Member.{accounts_of, is_house, is_r, is_aor_u, is_client, house_eul, half_of_clients, two_largest_of_r}
-use Rattle.methodology.specs.Member.{part_b, part_c, member_eul, member_own, loss}
+use Rattle.methodology.specs.Account.{DayInput, Account, account_at, accounts, members, nobody, kind_h}
 use Rattle.methodology.specs.Day.{total}
 use Rattle.methodology.specs.Refusals.{clear, row◌when◌else◌, bad_day_number, bad_heading, first_bad_heading, last_missing, npv_outside, bad_amount}
 use Rattle.methodology.specs.Refusals.{account_rows, day_rows, day_refusal, bad_opening}
 use Rattle.methodology.specs.Register.{Call, Register, last_number, refusal}
 use Rattle.methodology.proofs.RowLimits.{accounts_long}
+use Rattle.exposure.proofs.Bounds.{Limited, total_bound}
 use Rattle.validation.specs.Slices.{no_account}
 use Rattle.validation.specs.Passing.{Passes}
 use Rattle.validation.proofs.Amounts.{accounts_at}
@@ -40,10 +34,10 @@ use Rattle.validation.proofs.OpeningPasses.{opening_leaves}
 use Rattle.without_losses.specs.Inserted.{AcceptedWithout}
 
 -- no condition of the rows is of T, or of a loss
-pub accepted : (g : Register) (d : DayInput) (room : ℕ) → g.status ≡ Open → room ≡ 5 * g.held.n → Passes g.held (last_number g.days) d
+pub day_accepted : (g : Register) (d : DayInput) (room : ℕ) → g.status ≡ Open → room ≡ 5 * g.held.n → Passes g.held (last_number g.days) d
     → refusal g (Call.day d room) ≡ clear
 unfolding refusal day_refusal day_rows account_rows row◌when◌else◌
-accepted g d room status wide p =
+day_accepted g d room status wide p =
     let count = length d.headings in
     rw (status, eq-eqb room (5 * g.held.n) wide, p.input, p.number, p.headings, p.complete, p.amounts, le-ltb count count (omega arith)) refl
 
@@ -138,43 +132,18 @@ quiet_passes o number last e low high =
 
 -- ---- the losses
 
--- the account's own EUL: no decrease is above 0
-own_zero : (k m : ℕ) → own_eul k (quiet_account k m) ≡ pos 0
-unfolding own_eul eul_of largest_decrease decrease
-own_zero k m =
-    let npvs = replicate (k + 1) (pos 0) in
-    let falls : (j : ℕ) → decrease npvs j ≤ 0 = λ j. rw (replicate_at (k + 1) 0 (pos 0), replicate_at (k + 1) j (pos 0)) (omega arith) in
-    ap pos (omega (arith, greatest_le (scenarios k) (decrease npvs) 0 (λ j i. falls j)))
-
--- a member's EUL where all its accounts are house accounts with an EUL of 0: parts b and c are those of no account
-member_zero : (f : Account → ℤ) (own : List Account) → ((a : Account) → a ∈ own → (a.heading.kind ≡ kind_h) × (f a ≡ pos 0))
-    → member_eul f own ⁺ ≡ 0
-unfolding member_eul house_eul part_b half_of_clients two_largest_of_r part_c ceil_div descending Σ
-member_zero f own h =
-    let eul : (a : Account) → a ∈ filter is_house own → f a ⁺ ≡ 0 = λ a m. rw (h a (mem_keep is_house own m).0).1 refl in
-    rw (
-      keep_none is_client own (λ a m. rw (h a m).0 refl),
-      keep_none is_r own (λ a m. rw (h a m).0 refl),
-      keep_none is_aor_u own (λ a m. rw (h a m).0 refl),
-      +ℤ_idr (house_eul f own),
-      +ℤ_idr (house_eul f own),
-    )
-    (omega (arith, Σℤ-⁺ (filter is_house own) f, Σ-zero (filter is_house own) (λ a. f a ⁺) eul))
-
+-- T is within what amounts of 0 allow
 total_zero : (o : Opening) (number : ℕ) → total o (accounts o.k (quiet_day o number)) ≡ 0
-unfolding total loss member_own accounts_of
 total_zero o number =
-    let all = accounts o.k (quiet_day o number) in
-    let quiet = each o number (λ a. (a.heading.kind ≡ kind_h) × (own_eul o.k a ≡ pos 0)) (λ m. (refl, own_zero o.k m)) in
-    Σ-zero (members o.n) (loss o.k all) (λ m i. member_zero (own_eul o.k) (accounts_of m all) (λ a j. quiet a (mem_keep _ all j).0))
+    let limited : (m : ℕ) → Limited 0 (quiet_account o.k m) =
+    λ m. record { npv = λ i h. rw (replicate_at (o.k + 1) i (pos 0)) (omega arith); margin = omega arith; extra = omega arith } in
+    omega (arith, total_bound 0 (accounts o.k (quiet_day o number)) (each o number (Limited 0) limited) o)
 
 -- ---- in every open period, whatever its days
 
 pub there_is_one : (g : Register) (number : ℕ) → g.status ≡ Open → bad_opening g.held ≡ false → last_number g.days < number → number ≤ 31
-    → let d = quiet_day g.held number in AcceptedWithout g d (5 * g.held.n)
+    → (d : DayInput) × (d.terms.number ≡ number) × AcceptedWithout g d (5 * g.held.n)
 there_is_one g number status within low high =
-    let passed = quiet_passes g.held number (last_number g.days) within low high in
-    record {
-      passes = accepted g (quiet_day g.held number) (5 * g.held.n) status refl passed;
-      no_loss = total_zero g.held number;
-    }
+    let d = quiet_day g.held number in
+    let passes = day_accepted g d (5 * g.held.n) status refl (quiet_passes g.held number (last_number g.days) within low high) in
+    (d, refl, record { passes = passes; without = total_zero g.held number })

@@ -2,17 +2,15 @@
 -- alone is one without days; and what a day put in changes (Inserted.antt). By demand 3 so it is in every list of calls. With it the claim is
 -- whole: `without_losses`.
 use mathlib.Core.Path.{◌≡◌, refl, sym, ap, subst, ◌∙◌}
-use mathlib.Core.Bool.{Bool, true, false, not, ◌||◌}
-use mathlib.Core.List.{List, [], ◌∷◌, ◌++◌, map, map-append, map-map, append_assoc, flat_map}
+use mathlib.Core.Bool.{true, false, not}
+use mathlib.Core.List.{List, [], ◌∷◌, ◌++◌, map, flat_map}
 use Prim.Native.Nat.{ℕ, ◌+◌, ◌*◌, ◌≤◌}
 use native.Mathlib.Omega.{arith}
-use lib.Dec.{leb}
 use lib.ListN.{length, get_or, drop}
 use borrow.Author.Tests.{le-leb, eq-eqb, not-false}
 use Rattle.std.proofs.Math.Bool.{or-true}
 use Rattle.std.specs.List.{fold, range_with_len}
 use Rattle.std.proofs.lemmas.List.Folds.{fold-map}
-use Rattle.std.proofs.lemmas.List.Sums.{fold-append}
 use Rattle.numbers.proofs.Lists.{map_eq, range_mem}
 use Rattle.methodology.specs.declared.Status.TheVariants.{Open}
 use Rattle.methodology.specs.declared.Refusal.TheVariants.{OutOfTurn}
@@ -41,6 +39,7 @@ use Rattle.not_begun.proofs.NeverOccurs.{number_7_never_occurs}
 use Rattle.demand3.proofs.Demand3Proved.{demand_3, compiled_holds}
 use Rattle.without_losses.specs.Inserted.{AcceptedWithout, SameOr3, EachSameOr3}
 use Rattle.without_losses.specs.WithoutLosses.{with_last, DayWithout, AllWithout, days_dropped, Closes, calls_of, MadeSameOr3, EachMadeSameOr3, PutIn, WithoutLosses}
+use Rattle.without_losses.proofs.Accepted.{day_accepted, there_is_one}
 use Rattle.without_losses.proofs.Inserted.{left_out, days_inserted, kept_day, inserted}
 use Rattle.without_losses.proofs.OnlyWithout.{as_not_begun}
 
@@ -183,7 +182,8 @@ of_list earlier later earlier' x later' without with p =
 pub without_losses : WithoutLosses
 without_losses =
     record {
-      day_accepted = {!!};
+      day_accepted = day_accepted;
+      there_is_one = there_is_one;
       losses_none = losses_none;
       own_none = own_none;
       day = λ cs c d out made. of_day cs c d out (demand_3.every_list (cs ++ (c ∷ [])) made);

@@ -17,7 +17,7 @@ use Rattle.methodology.specs.Account.{DayInput, Account, members}
 use Rattle.methodology.specs.Member.{loss}
 use Rattle.methodology.specs.Day.{total, own_max_eul}
 use Rattle.methodology.specs.Contribution.{KeptDay, highest, counted}
-use Rattle.methodology.specs.Refusals.{clear, bad_input}
+use Rattle.methodology.specs.Refusals.{clear, bad_opening, bad_input}
 use Rattle.methodology.specs.Register.{Call, Register, start, last_number, refusal, step, Answer, accepted, refused, answer, buffer}
 use Rattle.validation.specs.Passing.{Passes}
 use Rattle.period.specs.declared.Period.{Period}
@@ -97,6 +97,9 @@ pub record WithoutLosses : Type 2 where
   -- "Such a day is now accepted": a day that meets no row of 2 to 6 is, whatever its losses
   pub day_accepted : (g : Register) (d : DayInput) (room : ℕ) → g.status ≡ Open → room ≡ 5 * g.held.n → Passes g.held (last_number g.days) d
       → refusal g (Call.day d room) ≡ clear
+  -- and in every open period there is one that is, under any number above the last
+  pub there_is_one : (g : Register) (number : ℕ) → g.status ≡ Open → bad_opening g.held ≡ false → last_number g.days < number → number ≤ 31
+      → (d : DayInput) × (d.terms.number ≡ number) × AcceptedWithout g d (5 * g.held.n)
   -- where T is 0 so is each loss, and the day's own Max EUL
   pub losses_none : (o : Opening) (accts : List Account) (m : ℕ) → 1 ≤ m → m ≤ o.n → total o accts ≡ 0 → loss o.k accts m ≡ 0
   pub own_none : (o : Opening) (accts : List Account) → total o accts ≡ 0 → own_max_eul o accts ≡ 0
