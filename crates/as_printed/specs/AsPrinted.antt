@@ -1,7 +1,7 @@
 -- Document 02, Change 1, of the report as a person reads it off its bytes: "Each sum equals that of the day's records as printed, and the
--- first equals T." `AsPrinted` is the claim. It says too that the days' Max EULs never fall (Change 3), and what a day
--- without losses shows (Change 4).
-use Rattle.std.specs.Prelude.{◌≡◌, true, false, cond, not, ◌&&◌, ◌||◌, ℕ, ◌+◌, ◌*◌, ◌^◌, ◌≤◌, ◌<◌, eqb, ltb, length, get_or, take, drop}
+-- first equals T." `AsPrinted` is the claim. It says too that the days' Max EULs never fall (Change 3), what a day without losses shows
+-- (Change 4), and that no day of the text is left out.
+use Rattle.std.specs.Prelude.{◌≡◌, Bool, true, false, cond, not, ◌&&◌, ◌||◌, ℕ, ◌+◌, ◌*◌, ◌^◌, ◌≤◌, ◌<◌, eqb, ltb, length, get_or, take, drop}
 use mathlib.Core.List.{List, [], ◌∷◌, ◌++◌, map, flat_map}
 use Rattle.std.specs.Prelude.{Some}
 use Rattle.std.specs.List.{fold, filter, list_any, AllByRecursion, range_with_len}
@@ -29,9 +29,16 @@ worded word numbers = record { word = word; numbers = numbers }
 abbrev pub line_of : (line : List ℕ) → Line
 line_of line = worded (get_or (fields line) 0 []) (map (value_from 0) (drop 1 (fields line)))
 
--- the lines of a report, and what follows its last LF
-abbrev pub lines_of : (report : List ℕ) → List Line
-lines_of report = map line_of (split LF report)
+-- the lines of a report or a text, and what follows its last LF
+abbrev pub lines_of : (s : List ℕ) → List Line
+lines_of s = map line_of (split LF s)
+
+-- the numbers of the days among these lines: the first number of each `day` line
+abbrev pub day_numbers : List Line → List ℕ
+day_numbers lines = map (λ l. get_or l.numbers 0 0) (filter (λ l. same l.word (bytes "day")) lines)
+
+abbrev pub has_fund : List Line → Bool
+has_fund lines = list_any (λ l. same l.word (bytes "fund")) lines
 
 -- a line that has nothing but its word and its numbers in decimal, all below 2^64
 pub record InDecimal (line : List ℕ) : Type 0 where
@@ -94,8 +101,8 @@ abbrev pub days_counted : List DayRead → ℕ
 days_counted days = length (filter (λ d. counts d.T) days)
 
 -- A report of n members, or what is left of it after accepted days of which `before` count and the last reported `top`, is its accepted
--- days, each of which adds up, and after them other lines. Where there is a fund its D is the number of the days that count, so that none is
--- left out, and its M is the Max EUL of the last day, 0 without days.
+-- days, each of which adds up, and after them other lines. Where there is a fund its D is the number of the days that count, and its M is
+-- the Max EUL of the last day, 0 without days.
 pub record DaysAddUp (n before top : ℕ) (report : List ℕ) : Type 0 where
   pub days : List DayRead
   pub rest : List Line
@@ -173,3 +180,6 @@ pub record AsPrinted : Type 0 where
   pub all_decimal : (text : List ℕ) → AllByRecursion InDecimal (split LF (report_of text))
   -- "Each sum equals that of the day's records as printed, and the first equals T." The days' Max EULs never fall, and M is the last (Change 3).
   pub days_add_up : (text : List ℕ) → DaysAddUp (members_in text) 0 0 (report_of text)
+  -- No day is left out, with losses or without: where a report has a fund, its days are those of the text, in the text's order.
+  pub days_shown : (text : List ℕ) → has_fund (lines_of (report_of text)) ≡ true
+      → day_numbers (lines_of (report_of text)) ≡ day_numbers (lines_of text)

@@ -40,7 +40,7 @@ module _ (m : ℕ) (s : List ℕ) (longer : m < length s) (near : index_of LF s 
   has_whole : has LF s ≡ true
   has_whole = lt-ltb (index_of LF s) (length s) (omega arith)
 
-  pub before_same : before LF (take m s) ≡ before LF s
+  before_same : before LF (take m s) ≡ before LF s
   before_same = rw index_same (take-take (index_of LF s) m s (omega arith))
 
   after_cut : after LF (take m s) ≡ take (m - suc (index_of LF s)) (after LF s)
@@ -57,7 +57,7 @@ unended (account g d at count used) i rest h = refl
 unended (after_end g at) i [] h = absurd (omega arith)
 unended (after_end g at) i (x ∷ rest) h = refl
 
-pub too_long : (i : ℕ) (s : List ℕ) (e : Expected) → a_line ≤ index_of LF s → report_from i (split LF s) e ≡ refused_line BadLine i
+too_long : (i : ℕ) (s : List ℕ) (e : Expected) → a_line ≤ index_of LF s → report_from i (split LF s) e ≡ refused_line BadLine i
 unfolding followed_by bad_bytes
 too_long i s e h = by (has LF s) refl
   where

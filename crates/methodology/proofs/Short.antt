@@ -81,7 +81,7 @@ refused_short row line = omega (arith, printed_short (bytes "refused") (row_numb
 -- ---- the whole report, by what it is made of
 
 -- the end, and a day for each number above the last: an accepted day's number is above it
-rest_short : {last : ℕ} {g : Register} {s : List ℕ} → g.held.n ≤ 32 → Rest last g s → length s ≤ a_day + a_day * (31 - last_number g.days)
+rest_short : {last : ℕ} {g : Register} {days s : List ℕ} → g.held.n ≤ 32 → Rest last g days s → length s ≤ a_day + a_day * (31 - last_number g.days)
 unfolding accept returned
 rest_short {g = g} few (a_day_lem {rest = rest} d clear more) =
     let call = day_call g d in
@@ -97,7 +97,7 @@ rest_short {g = g} few (a_fund clear) =
     omega (arith, fund_short after.held.n (returned after call) (written after call) refl (omega arith))
 rest_short few (a_refusal row line k) = omega (arith, refused_short row line)
 
-report_short : {n last : ℕ} {s : List ℕ} → Report n last s → length s ≤ 147456
+report_short : {n last : ℕ} {days s : List ℕ} → Report n last days s → length s ≤ 147456
 unfolding accept
 report_short (a_period o is few clear rest) =
     let members : (step start (Call.opening o)).held.n ≡ o.n = ap (λ (x : Register). x.held.n) (step_clear start (Call.opening o) clear) in
