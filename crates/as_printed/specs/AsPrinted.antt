@@ -88,11 +88,12 @@ abbrev pub FundSays : (D M : ℕ) → Line → Type 0
 FundSays D M l = same l.word (bytes "fund") ≡ true → take 2 l.numbers ≡ D ∷ M ∷ []
 
 -- Change 3: no day's Max EUL is below the one of the day before it, and before the first stands `top`; on a day without losses it is the same
--- (Change 4). And the last day's, or `top` without days.
+-- (Change 4).
 abbrev pub NeverFall : (top : ℕ) → List DayRead → Type 0
 NeverFall top [] = Unit {0}
 NeverFall top (d ∷ ds) = (top ≤ d.Max) × (d.T ≡ 0 → d.Max ≡ top) × NeverFall d.Max ds
 
+-- the last day's Max EUL, or `top` without days
 abbrev pub last_max : (top : ℕ) → List DayRead → ℕ
 last_max = fold (λ top d. d.Max)
 
@@ -100,9 +101,9 @@ last_max = fold (λ top d. d.Max)
 abbrev pub days_counted : List DayRead → ℕ
 days_counted days = length (filter (λ d. counts d.T) days)
 
--- A report of n members, or what is left of it after accepted days of which `before` count and the last reported `top`, is its accepted
--- days, each of which adds up, and after them other lines. Where there is a fund its D is the number of the days that count, and its M is
--- the Max EUL of the last day, 0 without days.
+-- A report of n members is its accepted days, each of which adds up, and after them other lines. Where there is a fund its D is the number of
+-- the days that count, and its M is the Max EUL of the last day, 0 without days. The same of what is left of a report after some accepted
+-- days: `before` of these count, and the last reported `top`.
 pub record DaysAddUp (n before top : ℕ) (report : List ℕ) : Type 0 where
   pub days : List DayRead
   pub rest : List Line

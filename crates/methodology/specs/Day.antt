@@ -41,7 +41,8 @@ own_max_eul o accts =
 abbrev pub scale : ℕ
 scale = 1000000000000
 
--- "A member's share is e × 10^12 / T, rounded up."
+-- "A member's share is e × 10^12 / T, rounded up." It is taken where T is above 0, and so are the three figures after it (`five`, and `counted`
+-- in Contribution.antt).
 unfoldable pub share : (e T : ℕ) → ℕ
 share e T = ceil_div (e * scale) T
 

@@ -162,8 +162,8 @@ impl Period {
         Ok(())
     }
 
-    // What `day` does to a period: it takes in the day's number, the Max EUL that it reports, which M is then, and, where it has losses, the day
-    // itself and the shares that it wrote.
+    // What `day` does to a period: it takes in the day's number and the Max EUL that it reports, which M is then; where it has losses D is one
+    // more, and the sums take in the shares that it wrote.
     fn size(&mut self, day: &Day, out: &mut [u64]) -> Result<DayReturns, Refusal>
         ensures { DayMeets self.old (day_brought day.now) out.old (answer_of day_returned result) self.new out.new }
     {

@@ -31,7 +31,7 @@ use Rattle.validation.specs.Slices.{no_account}
 use Rattle.validation.specs.Passing.{Passes}
 use Rattle.validation.proofs.Amounts.{accounts_at}
 use Rattle.validation.proofs.OpeningPasses.{opening_leaves}
-use Rattle.without_losses.specs.Inserted.{AcceptedWithout}
+use Rattle.without_losses.specs.PutIn.{AcceptedWithout}
 
 -- no condition of the rows is of T, or of a loss
 pub day_accepted : (g : Register) (d : DayInput) (room : ℕ) → g.status ≡ Open → room ≡ 5 * g.held.n → Passes g.held (last_number g.days) d

@@ -1,4 +1,4 @@
 pub mod Accepted
-pub mod Inserted
+pub mod PutIn
 pub mod OnlyWithout
 pub mod WithoutLosses

@@ -10,8 +10,8 @@ use Rattle.methodology.specs.Contribution.{KeptDay, counted}
 use Rattle.methodology.specs.Register.{Call, Register, refusal, accept, if_accepted, answer_by, answer, buffer}
 use Rattle.methodology.proofs.Passed.{answer_is, buffer_is}
 use Rattle.methodology.proofs.Counted.{counted_none}
-use Rattle.without_losses.specs.Inserted.{SameFigures}
-use Rattle.without_losses.proofs.Inserted.{same_figures, returned_same, written_same}
+use Rattle.without_losses.specs.PutIn.{SameFigures}
+use Rattle.without_losses.proofs.PutIn.{same_figures, returned_same, written_same}
 
 -- a closing answers and writes the same over other days that come to the same figures, as over those alone that count (`left_out`)
 pub closing_same : (g : Register) (days : List KeptDay) (room : ℕ) (before : List ℕ) → SameFigures g.held g.days days

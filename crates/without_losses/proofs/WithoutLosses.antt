@@ -1,5 +1,5 @@
 -- A day without losses: what it answers, writes and leaves, by its T of 0 and the laws of the days that count; that a closing after such days
--- alone is one without days; and what a day put in changes (Inserted.antt). By demand 3 so it is in every list of calls. With it the claim is
+-- alone is one without days; and what a day put in changes (PutIn.antt). By demand 3 so it is in every list of calls. With it the claim is
 -- whole: `without_losses`.
 use mathlib.Core.Path.{◌≡◌, refl, sym, ap, subst, ◌∙◌}
 use mathlib.Core.Bool.{true, false, not}
@@ -15,13 +15,14 @@ use Rattle.numbers.proofs.Lists.{map_eq, range_mem}
 use Rattle.methodology.specs.declared.Status.TheVariants.{Open}
 use Rattle.methodology.specs.declared.Refusal.TheVariants.{OutOfTurn}
 use Rattle.methodology.specs.declared.Opening.{Opening}
-use Rattle.methodology.specs.Account.{DayInput, Account, members}
+use Rattle.methodology.specs.Account.{DayInput, Account, members, accounts}
 use Rattle.methodology.specs.Member.{loss}
 use Rattle.methodology.specs.Day.{total, five, dailies}
 use Rattle.methodology.specs.Contribution.{KeptDay, reported_max_eul, highest, counts}
 use Rattle.methodology.specs.Refusals.{clear, row◌when◌else◌, is_open, outside, bad_input, bad_day_number, day_rows, day_refusal}
-use Rattle.methodology.specs.Register.{Call, Register, start, refusal, accept, step, returned, written, accepted, refused, answer, buffer}
+use Rattle.methodology.specs.Register.{Call, Register, start, last_number, refusal, accept, step, returned, written, accepted, refused, answer, buffer}
 use Rattle.methodology.proofs.Passed.{passed, step_clear}
+use Rattle.validation.specs.Passing.{Passes}
 use Rattle.methodology.proofs.Counted.{counted_skip, sum_skip}
 use Rattle.methodology.proofs.SoFar.{reported_is_m}
 use Rattle.exposure.proofs.MaxTotal.{loss_le_total, own_none, highest_skip, highest_counted}
@@ -33,14 +34,13 @@ use Rattle.demand3.specs.Demand3.{Agrees, Holds, register_after}
 use Rattle.demand3.proofs.EveryList.{holds_from, last_agrees}
 use Rattle.demand3.proofs.Demand3.{made_of}
 use Rattle.answers.proofs.RefusalRows.{is_clear}
-use Rattle.not_begun.specs.NotBegun.{AsNotBegun}
 use Rattle.not_begun.proofs.NotBegun.{not_begun}
 use Rattle.not_begun.proofs.NeverOccurs.{number_7_never_occurs}
 use Rattle.demand3.proofs.Demand3Proved.{demand_3, compiled_holds}
-use Rattle.without_losses.specs.Inserted.{AcceptedWithout, SameOr3, EachSameOr3}
-use Rattle.without_losses.specs.WithoutLosses.{with_last, DayWithout, AllWithout, days_dropped, Closes, calls_of, MadeSameOr3, EachMadeSameOr3, PutIn, WithoutLosses}
+use Rattle.without_losses.specs.PutIn.{AcceptedWithout, SameOr3, EachSameOr3}
+use Rattle.without_losses.specs.WithoutLosses.{with_last, DayWithout, AllWithout, days_dropped, ClosesWithout, calls_of, MadeSameOr3, EachMadeSameOr3, PutIn, WithoutLosses}
 use Rattle.without_losses.proofs.Accepted.{day_accepted, there_is_one}
-use Rattle.without_losses.proofs.Inserted.{left_out, days_inserted, kept_day, inserted}
+use Rattle.without_losses.proofs.PutIn.{left_out, put_into_days, kept_day, each_refl, put_into_calls}
 use Rattle.without_losses.proofs.OnlyWithout.{as_not_begun}
 
 losses_none : (o : Opening) (accts : List Account) (m : ℕ) → 1 ≤ m → m ≤ o.n → total o accts ≡ 0 → loss o.k accts m ≡ 0
@@ -98,9 +98,11 @@ number_counts g d room s e input low =
 -- ---- the last call of a list of which demand 3 holds
 
 of_day : (cs : List Made) (c : Made) (d : DayInput) (out : List ℕ) → Holds start (cs ++ (c ∷ [])) → c.asked ≡ Asked.day d out
-    → AcceptedWithout (register_after start cs) d (length out) → DayWithout (register_after start cs) d c
-of_day cs c d out holds is s =
+    → let g = register_after start cs in
+    g.status ≡ Open → length out ≡ 5 * g.held.n → Passes g.held (last_number g.days) d → total g.held (accounts g.held.k d) ≡ 0 → DayWithout g d c
+of_day cs c d out holds is opened wide passes none =
     let g = register_after start cs in
+    let s : AcceptedWithout g d (length out) = record { passes = day_accepted g d (length out) opened wide passes; without = none } in
     let agreed = last_agrees start cs c holds in
     record {
       says = agreed.answer ∙ rw is (says g d (length out) s);
@@ -109,19 +111,20 @@ of_day cs c d out holds is s =
     }
 
 of_closing : (cs : List Made) (c : Made) (out : List ℕ) → Holds start (cs ++ (c ∷ [])) → c.asked ≡ Asked.closing out
-    → AllWithout (register_after start cs) → Closes (days_dropped (register_after start cs)) out c.answer c.after
+    → AllWithout (register_after start cs) → ClosesWithout (register_after start cs) out c
 of_closing cs c out holds is all =
+    let g = register_after start cs in
     let agreed = last_agrees start cs c holds in
-    let (answers, writes) = as_not_begun (register_after start cs) (length out) out all in
-    (agreed.answer ∙ rw is answers, agreed.buffer ∙ rw is writes)
-
-closing_figures : (cs : List Made) (c : Made) (out : List ℕ) → Holds start (cs ++ (c ∷ [])) → c.asked ≡ Asked.closing out
-    → AllWithout (register_after start cs) → (register_after start cs).status ≡ Open → length out ≡ 3 * (register_after start cs).held.n
-    → AsNotBegun (register_after start cs).held.n c.answer c.after
-closing_figures cs c out holds is all opened long =
-    let (answers, writes) = of_closing cs c out holds is all in
-    let none = (not_begun.closes (days_dropped (register_after start cs)) out (record { opened = opened; none = refl }) long).0 in
-    record { says = answers ∙ none.says; writes = writes ∙ none.writes }
+    let (answers, writes) = as_not_begun g (length out) out all in
+    let says = agreed.answer ∙ rw is answers in
+    let wrote = agreed.buffer ∙ rw is writes in
+    record {
+      as_no_day = (says, wrote);
+      figures =
+          λ opened long.
+          let none = (not_begun.closes (days_dropped g) out (record { opened = opened; none = refl }) long).0 in
+          record { says = says ∙ none.says; writes = wrote ∙ none.writes };
+    }
 
 -- ---- a day put in
 
@@ -165,8 +168,14 @@ each_made number g g' (c ∷ cs) (c' ∷ cs') e (said, wrote, more) (agreed, _, 
     let later = subst (λ (call : Call). EachSameOr3 number (step g (call_of c.asked)) (step g' call) (calls_of cs)) asked more in
     (one_made number g g' c c' asked said wrote agreed agreed', each_made number (step g (call_of c.asked)) (step g' (call_of c'.asked)) cs cs' (ap (drop 1) e) later h h')
 
+-- demand 3 of the first calls of a list
+holds_first : (g : Register) (cs ds : List Made) → Holds g (cs ++ ds) → Holds g cs
+holds_first g [] ds h = tt
+holds_first g (c ∷ cs) ds (agreed, covers, h) = (agreed, covers, holds_first (step g (call_of c.asked)) cs ds h)
+
 of_list : (earlier later earlier' : List Made) (x : Made) (later' : List Made) → Holds start (earlier ++ later) → Holds start (earlier' ++ (x ∷ later'))
-    → (p : PutIn earlier later earlier' x later') → EachMadeSameOr3 p.d.terms.number later later'
+    → (p : PutIn earlier later earlier' x later')
+    → EachMadeSameOr3 p.d.terms.number earlier earlier' × EachMadeSameOr3 p.d.terms.number later later'
 of_list earlier later earlier' x later' without with p =
     let g = register_after start earlier in
     let g' = register_after start earlier' in
@@ -174,8 +183,12 @@ of_list earlier later earlier' x later' without with p =
     let same : g' ≡ g = as_fed start earlier' ∙ ap (fed start) (sym p.same_earlier) ∙ sym (as_fed start earlier) in
     let (_, _, after) = holds_from start earlier' (x ∷ later') with in
     let put : step g' (call_of x.asked) ≡ step g day = rw (same, p.x_is) refl in
-    each_made p.d.terms.number g (step g day) later later' p.same_later (inserted g p.d (length p.out) (calls_of later) p.accepted_without p.below_next)
-    (holds_from start earlier later without) (subst (λ (g : Register). Holds g later') put after)
+    let number = p.d.terms.number in (
+      each_made number start start earlier earlier' p.same_earlier (each_refl number start (calls_of earlier)) (holds_first start earlier later without)
+          (holds_first start earlier' (x ∷ later') with),
+      each_made number g (step g day) later later' p.same_later (put_into_calls g p.d (length p.out) (calls_of later) p.accepted_without p.below_next)
+          (holds_from start earlier later without) (subst (λ (g : Register). Holds g later') put after),
+    )
 
 -- ---- the claim
 
@@ -192,16 +205,15 @@ without_losses =
       left_out = left_out;
       closes = λ g before all. as_not_begun g (length before) before all;
       closing = λ cs c out made. of_closing cs c out (demand_3.every_list (cs ++ (c ∷ [])) made);
-      closing_figures = λ cs c out made. closing_figures cs c out (demand_3.every_list (cs ++ (c ∷ [])) made);
-      put_in = days_inserted;
-      inserted = inserted;
-      every_list =
+      put_into_days = put_into_days;
+      put_into_calls = put_into_calls;
+      put_into_lists =
           λ earlier later earlier' x later' without with.
           of_list earlier later earlier' x later' (demand_3.every_list (earlier ++ later) without) (demand_3.every_list (earlier' ++ (x ∷ later')) with);
       number_7 = number_7_never_occurs;
       compiled_day = λ 𝓛 mem run cs c d out from. of_day (map made_of cs) (made_of c) d out (compiled_holds 𝓛 mem run cs (c ∷ []) from);
       compiled_closing = λ 𝓛 mem run cs c out from. of_closing (map made_of cs) (made_of c) out (compiled_holds 𝓛 mem run cs (c ∷ []) from);
-      compiled_list =
+      compiled_lists =
           λ 𝓛 mem run earlier later earlier' x later' without with.
           of_list (map made_of earlier) (map made_of later) (map made_of earlier') (made_of x) (map made_of later')
           (compiled_holds 𝓛 mem run earlier later without) (compiled_holds 𝓛 mem run earlier' (x ∷ later') with);

@@ -1,2 +1,2 @@
-pub mod Inserted
+pub mod PutIn
 pub mod WithoutLosses

@@ -13,7 +13,7 @@ use types.Logic.{Logic}
 use contract.Monad.{Fun}
 use Rattle.methodology.specs.declared.Status.TheVariants.{Open}
 use Rattle.methodology.specs.declared.Opening.{Opening}
-use Rattle.methodology.specs.Account.{DayInput, Account, members}
+use Rattle.methodology.specs.Account.{DayInput, Account, members, accounts}
 use Rattle.methodology.specs.Member.{loss}
 use Rattle.methodology.specs.Day.{total, own_max_eul}
 use Rattle.methodology.specs.Contribution.{KeptDay, highest, counted}
@@ -28,7 +28,7 @@ use Rattle.demand3.specs.Demand3.{register_after}
 use Rattle.demand3.proofs.Demand3.{Called, made_of, FromFresh}
 use Rattle.not_begun.specs.NeverOccurs.{NeverOccurs}
 use Rattle.not_begun.specs.NotBegun.{AsNotBegun}
-use Rattle.without_losses.specs.Inserted.{SameFigures, AcceptedWithout, next_number, BelowNext, SameOr3, EachSameOr3}
+use Rattle.without_losses.specs.PutIn.{SameFigures, AcceptedWithout, next_number, BelowNext, SameOr3, EachSameOr3}
 
 -- ---- the day itself
 
@@ -62,6 +62,12 @@ Closes g before said after =
     let call = Call.closing (length before) in
     (said ≡ answer g call) × (after ≡ buffer g call before)
 
+-- a closing that was made, lent `out`, where g is the register before it: exactly as if no day had come, and with the figures of Change 2
+-- where it is accepted
+pub record ClosesWithout (g : Register) (out : List ℕ) (c : Made) : Type 0 where
+  pub as_no_day : Closes (days_dropped g) out c.answer c.after
+  pub figures : g.status ≡ Open → length out ≡ 3 * g.held.n → AsNotBegun g.held.n c.answer c.after
+
 -- ---- a day put in
 
 abbrev pub calls_of : List Made → List Call
@@ -94,19 +100,19 @@ pub record PutIn (earlier later earlier' : List Made) (x : Made) (later' : List 
 -- ---- Change 4
 
 pub record WithoutLosses : Type 2 where
-  -- "Such a day is now accepted": a day that meets no row of 2 to 6 is, whatever its losses
+  -- "Such a day is now accepted": a day that rows 2 to 6 let pass is, whatever its losses
   pub day_accepted : (g : Register) (d : DayInput) (room : ℕ) → g.status ≡ Open → room ≡ 5 * g.held.n → Passes g.held (last_number g.days) d
       → refusal g (Call.day d room) ≡ clear
-  -- and in every open period there is one that is, under any number above the last
+  -- and in every open period, of an opening that row 1 lets pass, there is one that is, under any number above the last up to 31
   pub there_is_one : (g : Register) (number : ℕ) → g.status ≡ Open → bad_opening g.held ≡ false → last_number g.days < number → number ≤ 31
       → (d : DayInput) × (d.terms.number ≡ number) × AcceptedWithout g d (5 * g.held.n)
   -- where T is 0 so is each loss, and the day's own Max EUL
   pub losses_none : (o : Opening) (accts : List Account) (m : ℕ) → 1 ≤ m → m ≤ o.n → total o accts ≡ 0 → loss o.k accts m ≡ 0
   pub own_none : (o : Opening) (accts : List Account) → total o accts ≡ 0 → own_max_eul o accts ≡ 0
-  -- every such day that is accepted, in every list of calls
+  -- every such day, in every list of calls
   pub day : (cs : List Made) (c : Made) (d : DayInput) (out : List ℕ) → MadeOn fresh_period (cs ++ (c ∷ [])) → c.asked ≡ Asked.day d out
       → let g = register_after start cs in
-      AcceptedWithout g d (length out) → DayWithout g d c
+      g.status ≡ Open → length out ≡ 5 * g.held.n → Passes g.held (last_number g.days) d → total g.held (accounts g.held.k d) ≡ 0 → DayWithout g d c
   -- "Its day number counts for the rising order": after it a day whose number is not above its own is refused by 3, itself among them
   pub number_counts : (g : Register) (d : DayInput) (room : ℕ) → AcceptedWithout g d room
       → (e : DayInput) → bad_input g.held e ≡ false → e.terms.number ≤ d.terms.number
@@ -114,26 +120,23 @@ pub record WithoutLosses : Type 2 where
   -- any list of days: M is the same over those that count, and all figures of a closing go by these
   pub m_of_counted : (o : Opening) (days : List KeptDay) → highest o (counted o days) ≡ highest o days
   pub left_out : (o : Opening) (days : List KeptDay) → SameFigures o days (counted o days)
-  -- "Where all days are like this, closing answers as in Change 2": exactly as where no day had come, by the register, and so in every list of
-  -- calls; with the figures of Change 2 where it is lent 3n numbers
+  -- "Where all days are like this, closing answers as in Change 2": by the register, and so in every list of calls
   pub closes : (g : Register) (before : List ℕ) → AllWithout g
       → let call = Call.closing (length before) in
       Closes (days_dropped g) before (answer g call) (buffer g call before)
   pub closing : (cs : List Made) (c : Made) (out : List ℕ) → MadeOn fresh_period (cs ++ (c ∷ [])) → c.asked ≡ Asked.closing out
       → let g = register_after start cs in
-      AllWithout g → Closes (days_dropped g) out c.answer c.after
-  pub closing_figures : (cs : List Made) (c : Made) (out : List ℕ) → MadeOn fresh_period (cs ++ (c ∷ [])) → c.asked ≡ Asked.closing out
-      → let g = register_after start cs in
-      AllWithout g → g.status ≡ Open → length out ≡ 3 * g.held.n → AsNotBegun g.held.n c.answer c.after
+      AllWithout g → ClosesWithout g out c
   -- Put in anywhere, a day without losses changes no figure of another accepted day, nor D, M or any contribution. Of a list of days, the
-  -- last one first; by the register, of every call after it; and so in every list of calls.
-  pub put_in : (o : Opening) (later earlier : List KeptDay) (d : KeptDay) → total o d.accounts ≡ 0
+  -- last one first; by the register, of every call after it; and so in every list of calls, before it and after it.
+  pub put_into_days : (o : Opening) (later earlier : List KeptDay) (d : KeptDay) → total o d.accounts ≡ 0
       → SameFigures o (later ++ (d ∷ earlier)) (later ++ earlier)
-  pub inserted : (g : Register) (d : DayInput) (room : ℕ) (calls : List Call) → AcceptedWithout g d room → BelowNext d.terms.number (next_number g calls)
+  pub put_into_calls : (g : Register) (d : DayInput) (room : ℕ) (calls : List Call) → AcceptedWithout g d room → BelowNext d.terms.number (next_number g calls)
       → EachSameOr3 d.terms.number g (step g (Call.day d room)) calls
-  pub every_list : (earlier later earlier' : List Made) (x : Made) (later' : List Made)
+  pub put_into_lists : (earlier later earlier' : List Made) (x : Made) (later' : List Made)
       → MadeOn fresh_period (earlier ++ later) → MadeOn fresh_period (earlier' ++ (x ∷ later'))
-      → (p : PutIn earlier later earlier' x later') → EachMadeSameOr3 p.d.terms.number later later'
+      → (p : PutIn earlier later earlier' x later')
+      → EachMadeSameOr3 p.d.terms.number earlier earlier' × EachMadeSameOr3 p.d.terms.number later later'
   -- "Number 7 no longer occurs."
   pub number_7 : NeverOccurs 7
   -- and every list of compiled calls, as demand 3 has them
@@ -141,15 +144,17 @@ pub record WithoutLosses : Type 2 where
       {R : Type 1} {𝓤 : Ura R} (𝓛 : Logic 𝓤) (mem : Memory → SProp 𝓤) (run : Routine → Fun 𝓤)
       (cs : List Called) (c : Called) (d : DayInput) (out : List ℕ) → FromFresh 𝓛 mem run (cs ++ (c ∷ [])) → (made_of c).asked ≡ Asked.day d out
       → let g = register_after start (map made_of cs) in
-      AcceptedWithout g d (length out) → DayWithout g d (made_of c)
+      g.status ≡ Open → length out ≡ 5 * g.held.n → Passes g.held (last_number g.days) d → total g.held (accounts g.held.k d) ≡ 0
+      → DayWithout g d (made_of c)
   pub compiled_closing :
       {R : Type 1} {𝓤 : Ura R} (𝓛 : Logic 𝓤) (mem : Memory → SProp 𝓤) (run : Routine → Fun 𝓤)
       (cs : List Called) (c : Called) (out : List ℕ) → FromFresh 𝓛 mem run (cs ++ (c ∷ [])) → (made_of c).asked ≡ Asked.closing out
       → let g = register_after start (map made_of cs) in
-      AllWithout g → Closes (days_dropped g) out (made_of c).answer (made_of c).after
-  pub compiled_list :
+      AllWithout g → ClosesWithout g out (made_of c)
+  pub compiled_lists :
       {R : Type 1} {𝓤 : Ura R} (𝓛 : Logic 𝓤) (mem : Memory → SProp 𝓤) (run : Routine → Fun 𝓤)
       (earlier later earlier' : List Called) (x : Called) (later' : List Called)
       → FromFresh 𝓛 mem run (earlier ++ later) → FromFresh 𝓛 mem run (earlier' ++ (x ∷ later'))
       → (p : PutIn (map made_of earlier) (map made_of later) (map made_of earlier') (made_of x) (map made_of later'))
-      → EachMadeSameOr3 p.d.terms.number (map made_of later) (map made_of later')
+      → EachMadeSameOr3 p.d.terms.number (map made_of earlier) (map made_of earlier')
+      × EachMadeSameOr3 p.d.terms.number (map made_of later) (map made_of later')

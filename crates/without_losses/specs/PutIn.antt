@@ -26,8 +26,8 @@ pub record AcceptedWithout (g : Register) (d : DayInput) (room : ℕ) : Type 0 w
   pub passes : refusal g (Call.day d room) ≡ clear
   pub without : total g.held (accounts g.held.k d) ≡ 0
 
--- The number of the next day that an open register accepts of these calls, none where it accepts a closing before. An opening it accepts
--- none before that, and a refused call leaves it as it was.
+-- The number of the next day that an open register accepts of these calls, none where it accepts a closing before. While it is open it
+-- accepts no opening, and a refused call leaves it as it was.
 abbrev pub next_of : Call → Option ℕ
 next_of (Call.opening o) = None
 next_of (Call.day d room) = Some d.terms.number
@@ -43,8 +43,8 @@ abbrev pub BelowNext : (number : ℕ) → Option ℕ → Type 0
 BelowNext number None = Unit {0}
 BelowNext number (Some next) = number < next
 
--- What a call is answered without the day that has this number, and with it: the same; or 3 in place of 5 or 6, the rows that have an
--- index, where the call's own number is not above that of the day.
+-- What a call is answered without the day that has this number, and with it: the same; or 3 in place of a refusal with an index, by row 5 or
+-- 6, where the call's own number is not above that of the day.
 pub data SameOr3 (number : ℕ) : Call → (without with : Answer) → Type 0 where
   same : {c : Call} {a : Answer} → SameOr3 number c a a
   by_number : {d : DayInput} {room number' index : ℕ} → d.terms.number ≤ number → SameOr3 number (Call.day d room) (refused_at number' index) (refused 3)

@@ -27,7 +27,7 @@ use Rattle.methodology.proofs.Counted.{counted_skip, counted_append, counted_aga
 use Rattle.methodology.proofs.SoFar.{reported_is_m}
 use Rattle.methodology.proofs.Enough.{rises}
 use Rattle.exposure.proofs.MaxTotal.{highest_counted}
-use Rattle.without_losses.specs.Inserted.{SameFigures, AcceptedWithout, next_of, next_number, BelowNext, SameOr3, same, by_number, EachSameOr3}
+use Rattle.without_losses.specs.PutIn.{SameFigures, AcceptedWithout, next_of, next_number, BelowNext, SameOr3, same, by_number, EachSameOr3}
 
 -- ---- days
 
@@ -51,9 +51,9 @@ pub left_out : (o : Opening) (days : List KeptDay) → SameFigures o days (count
 left_out o days = same_figures o days (counted o days) (sym (counted_again o days))
 
 -- and one may be put in anywhere
-pub days_inserted : (o : Opening) (later earlier : List KeptDay) (d : KeptDay) → total o d.accounts ≡ 0
+pub put_into_days : (o : Opening) (later earlier : List KeptDay) (d : KeptDay) → total o d.accounts ≡ 0
     → SameFigures o (later ++ (d ∷ earlier)) (later ++ earlier)
-days_inserted o later earlier d none =
+put_into_days o later earlier d none =
     same_figures o _ _ (rw (counted_append o later (d ∷ earlier), counted_append o later earlier, counted_skip o d earlier (rw none refl)))
 
 -- ---- the figures of a call, by the days that are kept after it
@@ -162,7 +162,7 @@ none_closed number o days (Call.day d room ∷ cs) = none_closed number o days c
 none_closed number o days (Call.closing room ∷ cs) = none_closed number o days cs
 
 -- where the registers are the same
-each_refl : (number : ℕ) (g : Register) (cs : List Call) → EachSameOr3 number g g cs
+pub each_refl : (number : ℕ) (g : Register) (cs : List Call) → EachSameOr3 number g g cs
 each_refl number g [] = tt
 each_refl number g (c ∷ cs) = (same, (λ before. refl), each_refl number (step g c) cs)
 
@@ -205,7 +205,7 @@ module _ (o : Opening) (x : KeptDay) (earlier : List KeptDay) (none : total o x.
   fits_closed (d ∷ later) cs = tt
 
   same_days : (later : List KeptDay) → SameFigures o (later ++ earlier) (later ++ (x ∷ earlier))
-  same_days later = same_figures o _ _ (sym (days_inserted o later earlier x none).counted_same)
+  same_days later = same_figures o _ _ (sym (put_into_days o later earlier x none).counted_same)
 
   same_after : (s : Status) (later : List KeptDay) (c : Call)
       → let after = accept (without s later) c in
@@ -248,9 +248,9 @@ module _ (o : Opening) (x : KeptDay) (earlier : List KeptDay) (none : total o x.
   each_same s later (Call.closing room ∷ cs) fits =
       call_more s later (Call.closing room) cs fits (alike_refl x.number _ _) (λ fits. each_same Closed later cs (fits_closed later cs)) (each_same s later cs)
 
-pub inserted : (g : Register) (d : DayInput) (room : ℕ) (calls : List Call) → AcceptedWithout g d room → BelowNext d.terms.number (next_number g calls)
+pub put_into_calls : (g : Register) (d : DayInput) (room : ℕ) (calls : List Call) → AcceptedWithout g d room → BelowNext d.terms.number (next_number g calls)
     → EachSameOr3 d.terms.number g (step g (Call.day d room)) calls
 unfolding accept
-inserted g d room calls a below =
+put_into_calls g d room calls a below =
     rw (step_clear g (Call.day d room) a.passes)
     (each_same g.held (kept_day g.held d) g.days a.without (rises g d room a.passes).0 g.status [] calls below)
