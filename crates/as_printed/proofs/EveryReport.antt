@@ -175,7 +175,8 @@ rest_back {g = g} near k (a_day_lem {days = days} {rest = rest} d passes more) =
     let after = step g call in
     let members = ap (λ (x : Register). x.held.n) (step_clear g call passes) in
     let D = length (counted g.held g.days) in
-    let count : length (counted after.held after.days) ≡ cond (counts (T k d passes)) (D + 1) D = rw (step_clear g call passes) (number_counted g.held _ g.days) in
+    let count : length (counted after.held after.days) ≡ cond (counts (T k d passes)) (D + 1) D =
+    rw (step_clear g call passes) (number_counted g.held _ g.days) in
     let top = highest g.held g.days in
     let later = rest_back near (fit k d passes).kept more in
     let reported = subst (λ (top : ℕ). ReadsBack after.held.n (length (counted after.held after.days)) top days rest) (sym (max_is_m k d passes)) later in

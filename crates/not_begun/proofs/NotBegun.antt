@@ -146,10 +146,11 @@ report o good =
     let is : g ≡ record { status = Open; held = o; days = [] } = opened_anew start o (opening_clear o good) in
     let none : NoAcceptedDay g = record { opened = rw is refl; none = rw is refl } in
     let room = 3 * g.held.n in
+    let no_day = counted_nil g.held in
     ap report_of (sym (append-nil (text_of o)))
     ∙ to_the_end o good []
     ∙ nothing_after g (o.n + 2) (o.n + 3)
-    ∙ rw (closing_clear g none.opened, leaves g room none refl, counted_nil g.held, highest_none g.held [] (counted_nil g.held), total_none g.held, writes_none g.held)
+    ∙ rw (closing_clear g none.opened, leaves g room none refl, no_day, highest_none g.held [] no_day, total_none g.held, writes_none g.held)
     (fund_is g.held.n ∙ rw is refl)
 
 report_after : (o : Opening) (rest : List ℕ) → bad_opening o ≡ false → 0 < length rest → report_of (text_of o ++ rest) ≡ refused_line BadLine (o.n + 3)

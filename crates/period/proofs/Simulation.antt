@@ -242,7 +242,8 @@ closing_figures p = p.accrued.days ∷ p.accrued.highest ∷ Σ (sums_held p) (�
 closing_says : (g : Register) → Good g → (room : ℕ) → closing_figures (period_of g) ≡ returned (accept g (Call.closing room)) (Call.closing room)
 unfolding period_of accept returned
 closing_says g q room =
-    ap (λ (funds : ℕ). length (counted g.held g.days) ∷ highest g.held g.days ∷ funds ∷ []) (is_total_funded g.held g.days (period_of g).accrued.sums (sums_are g q))
+    ap (λ (funds : ℕ). length (counted g.held g.days) ∷ highest g.held g.days ∷ funds ∷ [])
+    (is_total_funded g.held g.days (period_of g).accrued.sums (sums_are g q))
 
 closing_writes : (g : Register) → Good g → (room : ℕ)
     → flat_map (λ s. three (charge_by (period_of g) s)) (sums_held (period_of g)) ≡ written (accept g (Call.closing room)) (Call.closing room)

@@ -165,8 +165,10 @@ each_made number g g' [] (c' ∷ cs') e u h h' = let long = ap length e in absur
 each_made number g g' (c ∷ cs) [] e u h h' = let long = ap length e in absurd (omega (arith, long))
 each_made number g g' (c ∷ cs) (c' ∷ cs') e (said, wrote, more) (agreed, _, h) (agreed', _, h') =
     let asked : call_of c.asked ≡ call_of c'.asked = ap (λ (l : List Call). get_or l 0 (call_of c.asked)) e in
-    let later = subst (λ (call : Call). EachSameOr3 number (step g (call_of c.asked)) (step g' call) (calls_of cs)) asked more in
-    (one_made number g g' c c' asked said wrote agreed agreed', each_made number (step g (call_of c.asked)) (step g' (call_of c'.asked)) cs cs' (ap (drop 1) e) later h h')
+    let later = subst (λ (call : Call). EachSameOr3 number (step g (call_of c.asked)) (step g' call) (calls_of cs)) asked more in (
+      one_made number g g' c c' asked said wrote agreed agreed',
+      each_made number (step g (call_of c.asked)) (step g' (call_of c'.asked)) cs cs' (ap (drop 1) e) later h h',
+    )
 
 -- demand 3 of the first calls of a list
 holds_first : (g : Register) (cs ds : List Made) → Holds g (cs ++ ds) → Holds g cs
