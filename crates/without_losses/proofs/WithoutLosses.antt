@@ -9,7 +9,7 @@ use native.Mathlib.Omega.{arith}
 use lib.ListN.{length, get_or, drop}
 use borrow.Author.Tests.{le-leb, eq-eqb, not-false}
 use Rattle.std.proofs.Math.Bool.{or-true}
-use Rattle.std.specs.List.{fold, range_with_len}
+use Rattle.std.specs.List.{range_with_len}
 use Rattle.std.proofs.lemmas.List.Folds.{fold-map}
 use Rattle.numbers.proofs.Lists.{map_eq, range_mem}
 use Rattle.methodology.specs.declared.Status.TheVariants.{Open}
@@ -34,6 +34,7 @@ use Rattle.demand3.specs.Demand3.{Agrees, Holds, register_after}
 use Rattle.demand3.proofs.EveryList.{holds_from, last_agrees}
 use Rattle.demand3.proofs.Demand3.{made_of}
 use Rattle.answers.proofs.RefusalRows.{is_clear}
+use Rattle.as_printed.specs.AsPrinted.{register_fed}
 use Rattle.not_begun.proofs.NotBegun.{not_begun}
 use Rattle.not_begun.proofs.NeverOccurs.{number_7_never_occurs}
 use Rattle.demand3.proofs.Demand3Proved.{demand_3, compiled_holds}
@@ -128,11 +129,8 @@ of_closing cs c out holds is all =
 
 -- ---- a day put in
 
--- the register after some calls
-abbrev fed : Register → List Call → Register
-fed = fold step
-
-as_fed : (g : Register) (cs : List Made) → register_after g cs ≡ fed g (calls_of cs)
+-- the register after calls that were made goes by what they asked alone
+as_fed : (g : Register) (cs : List Made) → register_after g cs ≡ register_fed g (calls_of cs)
 as_fed g cs = sym (fold-map step (λ c. call_of c.asked) g cs)
 
 -- what an accepted call leaves does not go by what its buffer held
@@ -182,7 +180,7 @@ of_list earlier later earlier' x later' without with p =
     let g = register_after start earlier in
     let g' = register_after start earlier' in
     let day = Call.day p.d (length p.out) in
-    let same : g' ≡ g = as_fed start earlier' ∙ ap (fed start) (sym p.same_earlier) ∙ sym (as_fed start earlier) in
+    let same : g' ≡ g = as_fed start earlier' ∙ ap (register_fed start) (sym p.same_earlier) ∙ sym (as_fed start earlier) in
     let (_, _, after) = holds_from start earlier' (x ∷ later') with in
     let put : step g' (call_of x.asked) ≡ step g day = rw (same, p.x_is) refl in
     let number = p.d.terms.number in (
