@@ -23,6 +23,7 @@ use Rattle.methodology.specs.Contribution.{KeptDay, reported_max_eul, highest, c
 use Rattle.methodology.specs.declared.Status.{Status}
 use Rattle.methodology.specs.Refusals.{Verdict, clear, is_open, opening_refusal, day_refusal, closing_refusal}
 use Rattle.methodology.specs.Register.{Call, Register, start, last_number, refusal, accept, if_accepted, step, returned, written, Answer, accepted, answer_by, answer, buffer}
+use Rattle.methodology.proofs.Passed.{answer_is, buffer_is}
 use Rattle.methodology.proofs.SoFar.{reported_is_m, reported_more}
 use Rattle.methodology.proofs.Counted.{number_counted, sum_cons, sum_skip}
 use Rattle.fund.specs.Shares.{plus_each}
@@ -61,13 +62,13 @@ by_row (Ok _) e h f = f refl
 by_row (Err met) e h f = (e, h)
 
 -- a figure, or a list of them, that only an accepted call gives
-accepted_by : {A : Type 0} (x : Verdict) (f : Register → A) (g after : Register) (w : A) → (x ≡ clear → w ≡ f after) → (rest : A) → if_accepted x w rest ≡ if_accepted x (f (if_accepted x after g)) rest
-accepted_by (Ok _) f g after w h rest = h refl
-accepted_by (Err met) f g after w h rest = refl
+accepted_by : {A : Type 0} (x : Verdict) (w v rest : A) → (x ≡ clear → w ≡ v) → if_accepted x w rest ≡ if_accepted x v rest
+accepted_by (Ok _) w v rest h = h refl
+accepted_by (Err met) w v rest h = refl
 
-answer_by_lem : (x : Verdict) (f : Register → List ℕ) (g after : Register) (w : List ℕ) → (x ≡ clear → w ≡ f after) → answer_by x w ≡ answer_by x (f (if_accepted x after g))
-answer_by_lem (Ok _) f g after w h = ap accepted (h refl)
-answer_by_lem (Err met) f g after w h = refl
+answer_by_lem : (x : Verdict) (w v : List ℕ) → (x ≡ clear → w ≡ v) → answer_by x w ≡ answer_by x v
+answer_by_lem (Ok _) w v h = ap accepted (h refl)
+answer_by_lem (Err met) w v h = refl
 
 -- the same where the period's row is the register's
 module _ (g : Register) (c : Call) (x : Verdict) (same : x ≡ refusal g c) where
@@ -78,14 +79,14 @@ module _ (g : Register) (c : Call) (x : Verdict) (same : x ≡ refusal g c) wher
       record { is = d ∙ ap (λ (y : Verdict). if_accepted y q p) same ∙ i; reached = w; good = k }
 
   tells : (figures : List ℕ) {told : Answer} → told ≡ answer_by x figures → (x ≡ clear → figures ≡ returned (accept g c) c) → told ≡ answer g c
-  unfolding answer step
   tells figures d h =
-      d ∙ ap (λ (y : Verdict). answer_by y figures) same ∙ answer_by_lem (refusal g c) (λ after. returned after c) g (accept g c) figures (λ e. h (same ∙ e))
+      d ∙ ap (λ (y : Verdict). answer_by y figures) same
+      ∙ answer_by_lem (refusal g c) figures (returned (accept g c) c) (λ e. h (same ∙ e)) ∙ sym (answer_is g c)
 
   fills : (w before : List ℕ) {after : List ℕ} → after ≡ if_accepted x w before → (x ≡ clear → w ≡ written (accept g c) c) → after ≡ buffer g c before
-  unfolding buffer step
   fills w before d h =
-      d ∙ ap (λ (y : Verdict). if_accepted y w before) same ∙ accepted_by (refusal g c) (λ after. written after c) g (accept g c) w (λ e. h (same ∙ e)) before
+      d ∙ ap (λ (y : Verdict). if_accepted y w before) same
+      ∙ accepted_by (refusal g c) w (written (accept g c) c) before (λ e. h (same ∙ e)) ∙ sym (buffer_is g c before)
 
 -- the status that counts is open just when the register's is
 open_alike : {g : Register} {p : Period} → Follows g p → is_open (status_of p) ≡ is_open g.status
