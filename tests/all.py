@@ -2,8 +2,8 @@
 """all.py [--definitions]
 
 Runs every check beside the gate, one after another, and prints the last line of each, all of it where it fails, and how many passed.
-Exits with 1 where one failed. It builds nothing: target/bin/sizing has to be there. With --definitions the wrong definitions are
-tried too, which takes some half hour.
+Exits with 1 where one failed. target/bin/sizing has to be there; nothing is built but, for step.py, its crate. With --definitions the
+wrong definitions are tried too, which takes some half hour.
 """
 import argparse
 import os
@@ -13,7 +13,7 @@ import time
 
 HERE = os.path.dirname(os.path.abspath(__file__))
 PROGRAM = os.path.join(HERE, "..", "target", "bin", "sizing")
-CHECKS = [["figures.py"], ["tables.py", "--check"], ["periods.py"], ["examples.py", PROGRAM], ["vectors.py", PROGRAM],
+CHECKS = [["figures.py"], ["tables.py", "--check"], ["periods.py"], ["step.py"], ["examples.py", PROGRAM], ["vectors.py", PROGRAM],
           ["program.py", PROGRAM], ["command.py", PROGRAM], ["compare.py", PROGRAM, "--months", "20000"]]
 
 

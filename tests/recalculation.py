@@ -1,5 +1,5 @@
 #!/usr/bin/env python3
-"""Document 01, with Changes 1 to 4 of document 02, recalculated in its own order, with exact fractions.
+"""Document 01, with Changes 1 to 5 of document 02, recalculated in its own order, with exact fractions.
 
 Reads a month's text on standard input and writes the report on standard output.
 """

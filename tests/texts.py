@@ -3,6 +3,7 @@
 A further field of a line gets its default in the function of that line, and stands in all of them. `tests/tables.py` then writes the
 tables anew. A character is a byte.
 """
+import itertools
 import os
 
 STORED = os.path.join(os.path.dirname(os.path.abspath(__file__)), "stored")
@@ -100,6 +101,16 @@ def after_a_day(*lines):
 def clients(kinds, *amounts):
     """Member 1's clients of these kinds, each of which falls from 0 by so much."""
     return [acct(1, i, kind, 0, 0, 0, -amount) for i, (kind, amount) in enumerate(zip(kinds, amounts), 1)]
+
+
+def in_every_order(k, *accounts):
+    """A month of one member that has the same clients on each day, in another order each, in all that there are. A client is its kind,
+    margin, extra and how far it falls from 0 under each scenario; its number is that of its place."""
+    days = []
+    for number, order in enumerate(sorted(set(itertools.permutations(accounts))), 1):
+        lines = [acct(1, i, kind, 0, margin, extra, *(-amount for amount in amounts)) for i, (kind, margin, extra, *amounts) in enumerate(order, 1)]
+        days.append((number, falls(1, *[2] * k), *lines))
+    return month(k, [0], *days)
 
 
 def second(*bases):
@@ -606,8 +617,16 @@ QUIET = [
     ("3 for a number below that of a day without losses", stored("quiet-44")),
 ]
 
+# A member's clients in every order (document 02, Change 5): all days of a month are alike.
+ANY_ORDER = [
+    ("the two largest of kind R in every order, with a tie of their own EULs",
+     in_every_order(2, ("R", 2, 1, 6, 2), ("R", 0, 0, 3, 5), ("U", 4, 4, 1, 1))),
+    ("two equal accounts of kind R, the largest, in every order", in_every_order(1, ("R", 1, 0, 4), ("R", 1, 0, 4), ("R", 0, 0, 2), ("A", 0, 0, 1))),
+    ("half the clients' sum, with a half dollar, in every order", in_every_order(1, ("R", 0, 0, 1), ("A", 0, 0, 3), ("U", 1, 1, 1))),
+]
+
 # Of the months of VALID the longest is run by `vectors` alone, of those of TOTALS all but these: cents rounded both ways, a group, two days
 # of one T, a day of own Max EUL 0, equal days; of those of NOT_BEGUN the first two are worked out, of those of SO_FAR and of QUIET six short ones each.
 WORKED = (BOTH + WORKED_ONLY + VALID[:5] + VALID[6:] + [TOTALS[i] for i in (1, 6, 12, 14, 15)] + NOT_BEGUN[:2]
-          + [SO_FAR[i] for i in (2, 8, 13, 18, 29, 43)] + WITHOUT_LOSSES + [QUIET[i] for i in (0, 6, 17, 19, 29, 44)])
-VECTORS = BOTH + VALID + VECTORS_ONLY + TOTALS + NOT_BEGUN + SO_FAR + WITHOUT_LOSSES + QUIET
+          + [SO_FAR[i] for i in (2, 8, 13, 18, 29, 43)] + WITHOUT_LOSSES + [QUIET[i] for i in (0, 6, 17, 19, 29, 44)] + ANY_ORDER)
+VECTORS = BOTH + VALID + VECTORS_ONLY + TOTALS + NOT_BEGUN + SO_FAR + WITHOUT_LOSSES + QUIET + ANY_ORDER

@@ -71,7 +71,8 @@ FROM = {
     **dict.fromkeys((
         "leb", "ltb", "eqb", "min", "max", "suc", "Some", "◌+◌", "◌-◌", "◌*◌", "◌/◌", "◌%◌", "negsuc", "pos", "◌-ℤ◌", "◌+ℤ◌", "cond", "not",
         "◌||◌", "◌&&◌", "false", "true", "length", "take", "drop", "map", "◌++◌"), "Rattle.std.specs.Prelude"),
-    "range_with_len": "Rattle.std.specs.List", "Σℤ": "Rattle.numbers.specs.Sums", "Σ": "Rattle.numbers.specs.Sums",
+    "range_with_len": "Rattle.std.specs.List", "position_or_len": "Rattle.std.specs.List", "get_or": "Rattle.std.specs.Prelude",
+    "Σℤ": "Rattle.numbers.specs.Sums", "Σ": "Rattle.numbers.specs.Sums",
     "greatest": "Rattle.numbers.specs.Sums", "◌⁺": "Rattle.numbers.specs.Signed", "◌⁻": "Rattle.numbers.specs.Signed",
     "round_div": "Rattle.numbers.specs.Rounding", "ceil_div": "Rattle.numbers.specs.Rounding",
     "with_groups": "Rattle.methodology.specs.Account", "dailies": "Rattle.methodology.specs.Day", "total": "Rattle.methodology.specs.Day",
@@ -157,6 +158,10 @@ Day.group_of | eqb (group_number o m') (group_number o m) | eqb (group_number o 
 Member.part_c | Σ (filter is_aor_u accts) (λ a. eul a ⁺) | Σℤ (filter is_aor_u accts) eul ⁺
 Member.two_largest_of_r | map (λ a. eul a ⁺) (filter is_r accts) | map (λ a. eul a ⁺) (take 2 (filter is_r accts))
 Member.part_b | max (half_of_clients eul accts) (two_largest_of_r eul accts) | cond (ltb 1 (length (filter is_r accts))) (max (half_of_clients eul accts) (two_largest_of_r eul accts)) (half_of_clients eul accts)
+Member.two_largest_of_r | Σ (take 2 (descending (map (λ a. eul a ⁺) (filter is_r accts)))) (λ x. x) | let l = map (λ a. eul a ⁺) (filter is_r accts) in let most = greatest l (λ x. x) in most + greatest (filter (λ x. ltb x most) l) (λ x. x)
+Member.two_largest_of_r | Σ (take 2 (descending (map (λ a. eul a ⁺) (filter is_r accts)))) (λ x. x) | let l = map (λ a. eul a ⁺) (filter is_r accts) in let most = greatest l (λ x. x) in most + greatest (drop (suc (position_or_len (λ x. eqb x most) l)) l) (λ x. x)
+Member.two_largest_of_r | Σ (take 2 (descending (map (λ a. eul a ⁺) (filter is_r accts)))) (λ x. x) | let l = map (λ a. eul a ⁺) (filter is_r accts) in let most = greatest l (λ x. x) in most + greatest (take (position_or_len (λ x. eqb x most) l) l) (λ x. x)
+Member.member_eul | pos (part_b eul accts) +ℤ pos (part_c eul accts) | pos (part_b eul (map (λ a. record { heading = cond (is_house a) a.heading (get_or accts (length accts - 1) a).heading; npvs = a.npvs; margin = a.margin; extra = a.extra }) accts)) +ℤ pos (part_c eul (map (λ a. record { heading = cond (is_house a) a.heading (get_or accts (length accts - 1) a).heading; npvs = a.npvs; margin = a.margin; extra = a.extra }) accts))
 Refusals.bad_input | (count * (o.k + 1)))⏎|| not (eqb (length d.margins) count)⏎|| not (eqb (length d.extras) count) | (length d.margins * (o.k + 1)))⏎|| not (eqb (length d.margins) (length d.extras))
 Refusals.bad_amount | list_any npv_outside a.npvs | list_any npv_outside (take 3 a.npvs)
 Refusals.bad_amount | list_any npv_outside a.npvs | list_any npv_outside (take 16 a.npvs)

@@ -26,7 +26,8 @@ pub stretch_is : (width : ℕ) (row : ℕ → List ℕ) → ((m : ℕ) → lengt
     → stretch width m (flat_map row (members n)) ≡ row m
 stretch_is width row wide n m low high =
     let back : 1 + (m - 1) ≡ m = omega arith in
-    rows_part width row wide (members n) (m - 1) 0 (omega (arith, length-range_with_len 1 n)) ∙ ap row (get_or-range_with_len 1 n (m - 1) 0 (omega arith) ∙ back)
+    rows_part width row (members n) (λ x i. wide x) (m - 1) 0 (omega (arith, length-range_with_len 1 n))
+    ∙ ap row (get_or-range_with_len 1 n (m - 1) 0 (omega arith) ∙ back)
 
 module _ (o : Opening) (Max : ℕ) (accts : List Account) where
   abbrev e : (m : ℕ) → ℕ

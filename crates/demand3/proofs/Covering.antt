@@ -26,13 +26,14 @@ three_wide r = refl
 module _ (o : Opening) (days : List KeptDay) where
   contributions_long : length (contributions o days) ≡ 3 * o.n
   unfolding contributions
-  contributions_long = rows_length 3 (λ m. three (raw o days m)) (λ m. three_wide (raw o days m)) (members o.n) ∙ ap (λ (x : ℕ). 3 * x) (length-range_with_len 1 o.n)
+  contributions_long =
+      rows_length 3 (λ m. three (raw o days m)) (members o.n) (λ m i. three_wide (raw o days m)) ∙ ap (λ (x : ℕ). 3 * x) (length-range_with_len 1 o.n)
 
   module _ (m : ℕ) (low : 1 ≤ m) (high : m ≤ o.n) where
     number_at : (j : ℕ) → j < 3 → get_or (contributions o days) (3 * (m - 1) + j) 0 ≡ get_or (three (raw o days m)) j 0
     unfolding contributions
     number_at j h =
-        rows_at 3 (λ m. three (raw o days m)) (λ m. three_wide (raw o days m)) (members o.n) (m - 1) j 0 0 (omega (arith, length-range_with_len 1 o.n)) h
+        rows_at 3 (λ m. three (raw o days m)) (members o.n) (λ x i. three_wide (raw o days x)) (m - 1) j 0 0 (omega (arith, length-range_with_len 1 o.n)) h
         ∙ ap (λ (x : ℕ). get_or (three (raw o days x)) j 0) (get_or-range_with_len 1 o.n (m - 1) 0 (omega arith) ∙ omega arith)
 
     raw_is : raw_in (contributions o days) m ≡ raw o days m

@@ -128,9 +128,9 @@ module _ {M : Type 1} {𝓤 : Ura M} (𝓛 : Logic 𝓤) (mem : Memory → SProp
 
 -- ---- the claim
 
--- What is claimed of a compiled function. `Says` is what its `ensures` says of a call.
-pub record Upholds (f : Compiled) (Says : CallOf f → Type 0) : Type 2 where
-  -- It meets its contract: what its name means, in any environment that has its code, ends, on every call, without a panic, and does what
+-- What is claimed of a compiled function.
+pub record MeetsContract (f : Compiled) : Type 2 where
+  -- What its name means, in any environment that has its code, ends, on every call that meets its `requires`, without a panic, and does what
   -- its clauses say (or stops the process, where the model allows it a status to stop at).
   pub met :
       {M : Type 1} {𝓤 : Ura M} (𝓛 : Logic 𝓤) (𝓜 : Model 𝓤 𝓛.H) (𝓡 : Running 𝓤 𝓛.H 𝓜) → Wired 𝓡.env f.code
@@ -144,6 +144,10 @@ pub record Upholds (f : Compiled) (Says : CallOf f → Type 0) : Type 2 where
   pub on_machine :
       {M : Type 1} {𝓤 : Ura M} (𝓛 : Logic 𝓤) (𝓜 : Model 𝓤 𝓛.H) (𝓡 : Running 𝓤 𝓛.H 𝓜) (P : Program) → Has (in_program P) f.code
       → Returns 𝓛 𝓜 (within 𝓤 𝓛.H 𝓜 𝓡 (machine P)) f.ended (f.clauses 𝓛) f.name
+
+-- What is claimed of a function of the outside. `Says` is what its `ensures` says of a call.
+pub record Upholds (f : Compiled) (Says : CallOf f → Type 0) : Type 2 where
+  pub contract : MeetsContract f
   -- Its clauses, whole: no ghost, nothing required, and `Says` ensured.
   pub clauses :
       {M : Type 1} {𝓤 : Ura M} (𝓛 : Logic 𝓤) (mem : Memory → SProp 𝓤) (run : Routine → Fun 𝓤)

@@ -8,8 +8,6 @@ use prog.Model.{Model}
 use prog.Routine.{Routine, machine}
 use prog.Wired.{Wired}
 use prog.Linked.{in_program, machine-Follows, Has-Wired}
-use contract.Lifetimes.{Lfts}
-use denote.Triple.Entry.{Args}
 use denote.Triple.Spec.{Meets as Meets-spec}
 use denote.Triple.Clauses.{closing as closing-of}
 use types.Logic.{Logic}
@@ -31,24 +29,16 @@ use Rattle.demand3.proofs.Fitting.{narrow_fresh, can_be_made}
 use Rattle.demand3.proofs.Facts.{fact_holds, period_set, opening_prop, meets_prop, no_buffer}
 use Rattle.demand3.proofs.Returns.{returns}
 use contract.Running.{Running, strict, within}
-use Rattle.demand3.proofs.Demand3.{Compiled, fresh, Method, opening, day, closing, compiled, CallOf, Called, given, made_of, EnsuredBy, AsEnsured, Linked, FromFresh, Upholds, Promised, Demand3}
+use Rattle.demand3.proofs.Demand3.{Compiled, fresh, Method, opening, day, closing, compiled, CallOf, Called, given, made_of, EnsuredBy, AsEnsured}
+use Rattle.demand3.proofs.Demand3.{Linked, FromFresh, MeetsContract, Upholds, Promised, Demand3}
 
--- What is claimed of a function follows from its met contract and its clauses. The machine on a program is an environment that has what the
--- program has.
-upheld :
-    (f : Compiled) (Says : CallOf f → Type 0)
+-- What is claimed of a function follows from its met contract. The machine on a program is an environment that has what the program has.
+pub meets_contract :
+    (f : Compiled)
     → ((M : Type 1) (𝓤 : Ura M) (𝓛 : Logic 𝓤) (𝓜 : Model 𝓤 𝓛.H) (𝓡 : Running 𝓤 𝓛.H 𝓜) → Wired 𝓡.env f.code
     → Meets-spec 𝓛 f.ended.signature (𝓡.run (𝓡.env f.name)) (closing-of 𝓛 f.ended (f.clauses 𝓛 𝓜.mem 𝓡.returns)))
-    → ((M : Type 1) (𝓤 : Ura M) (𝓛 : Logic 𝓤) (mem : Memory → SProp 𝓤) (run : Routine → Fun 𝓤)
-    (κs : Lfts f.ended.signature.lifetimes) (a : Args f.ended.signature κs)
-    → f.clauses 𝓛 mem run κs a
-    ≡ record {
-      ghost = Unit {0};
-      requires = λ _. (connectives 𝓤).⊤ₛ;
-      ensures = λ _ r e. fact 𝓤 (Says (record { κs = κs; arguments = a; result = r; exit = e }));
-    })
-    → Upholds f Says
-upheld f Says met clauses =
+    → MeetsContract f
+meets_contract f met =
     record {
       met = λ {M = M} {𝓤 = 𝓤} 𝓛 𝓜 𝓡 w. met M 𝓤 𝓛 𝓜 𝓡 w;
       returns = λ {M = M} {𝓤 = 𝓤} 𝓛 𝓜 𝓡 w. returns 𝓛 𝓜 𝓡 f.ended (f.clauses 𝓛) f.name (met M 𝓤 𝓛 𝓜 (strict 𝓤 𝓛.H 𝓜 𝓡) w);
@@ -57,21 +47,35 @@ upheld f Says met clauses =
           let there = within 𝓤 𝓛.H 𝓜 𝓡 (machine P) in
           let wired = Has-Wired (in_program P) (machine P) (machine-Follows P) f.code has in
           returns 𝓛 𝓜 there f.ended (f.clauses 𝓛) f.name (met M 𝓤 𝓛 𝓜 (strict 𝓤 𝓛.H 𝓜 there) wired);
-      clauses = λ {M = M} {𝓤 = 𝓤} 𝓛 mem run κs a. clauses M 𝓤 𝓛 mem run κs a;
     }
 
 fresh_does : Upholds fresh (λ c. c.result ≡ fresh_period)
-fresh_does = upheld fresh (λ c. c.result ≡ fresh_period) (λ M 𝓤 𝓛 𝓜 𝓡 w. fresh-proved.met 𝓤 𝓛 𝓜 𝓡 w) (λ M 𝓤 𝓛 mem run κs a. refl)
+fresh_does =
+    record {
+      contract = meets_contract fresh (λ M 𝓤 𝓛 𝓜 𝓡 w. fresh-proved.met 𝓤 𝓛 𝓜 𝓡 w);
+      clauses = λ 𝓛 mem run κs a. refl;
+    }
 
 -- Each clause holds by computation but for the opening's, to which `Meets` adds that it leaves no buffer: `no_buffer` says that this adds nothing.
 upholds : (f : Method) → Upholds (compiled f) (Promised f)
 upholds opening =
-    upheld (compiled opening) (Promised opening) (λ M 𝓤 𝓛 𝓜 𝓡 w. opening-proved.met 𝓤 𝓛 𝓜 𝓡 w)
-    (λ M 𝓤 𝓛 mem run κs (self, (n, (k, (groups, _)))) i.
-    let o = brought n k groups.now in
-    record { ghost = Unit {0}; requires = λ _. (connectives 𝓤).⊤ₛ; ensures = λ _ r e. fact 𝓤 (no_buffer (opening_prop self o (answer_of opening_returned r.outcome) r.period) i) })
-upholds day = upheld (compiled day) (Promised day) (λ M 𝓤 𝓛 𝓜 𝓡 w. day-proved.met 𝓤 𝓛 𝓜 𝓡 w) (λ M 𝓤 𝓛 mem run κs a. refl)
-upholds closing = upheld (compiled closing) (Promised closing) (λ M 𝓤 𝓛 𝓜 𝓡 w. closing-proved.met 𝓤 𝓛 𝓜 𝓡 w) (λ M 𝓤 𝓛 mem run κs a. refl)
+    record {
+      contract = meets_contract (compiled opening) (λ M 𝓤 𝓛 𝓜 𝓡 w. opening-proved.met 𝓤 𝓛 𝓜 𝓡 w);
+      clauses =
+          λ {𝓤 = 𝓤} 𝓛 mem run κs (self, (n, (k, (groups, _)))) i.
+          let says = λ (r : _). opening_prop self (brought n k groups.now) (answer_of opening_returned r.outcome) r.period in
+          record { ghost = Unit {0}; requires = λ _. (connectives 𝓤).⊤ₛ; ensures = λ _ r e. fact 𝓤 (no_buffer (says r) i) };
+    }
+upholds day =
+    record {
+      contract = meets_contract (compiled day) (λ M 𝓤 𝓛 𝓜 𝓡 w. day-proved.met 𝓤 𝓛 𝓜 𝓡 w);
+      clauses = λ 𝓛 mem run κs a. refl;
+    }
+upholds closing =
+    record {
+      contract = meets_contract (compiled closing) (λ M 𝓤 𝓛 𝓜 𝓡 w. closing-proved.met 𝓤 𝓛 𝓜 𝓡 w);
+      clauses = λ 𝓛 mem run κs a. refl;
+    }
 
 -- compiled calls are calls that were made
 module _ {M : Type 1} {𝓤 : Ura M} (𝓛 : Logic 𝓤) (mem : Memory → SProp 𝓤) (run : Routine → Fun 𝓤) where

@@ -103,7 +103,7 @@ module _ {p : Period} {room : ℕ} (c : Ready p 3 room) (full : length p.accrued
 
   closing_long : length (flat_map (λ s. three (charge_by p s)) (sums_held p)) ≡ room
   closing_long =
-      rows_length 3 _ (λ s. three_wide _) (sums_held p) ∙ ap (λ (x : ℕ). 3 * x) sums_long ∙ sym c.room_long
+      rows_length 3 _ (sums_held p) (λ s i. three_wide _) ∙ ap (λ (x : ℕ). 3 * x) sums_long ∙ sym c.room_long
 
 -- ---- the period
 

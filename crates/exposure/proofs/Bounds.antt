@@ -89,7 +89,7 @@ pub record Limited (most : ℕ) (a : Account) : Type 0 where
   pub extra : a.extra ≤ a.margin
 
 -- what row 6 leaves
-limited : (a : Account) → bad_amount a ≡ false → Limited limit a
+pub limited : (a : Account) → bad_amount a ≡ false → Limited limit a
 unfolding bad_amount
 limited a e =
     let (h, x) = neither _ _ e in

@@ -75,12 +75,13 @@ module _ (o : Opening) (Max : ℕ) (accts : List Account) where
   pub dailies_long : length (dailies o Max accts) ≡ 5 * o.n
   unfolding dailies
   dailies_long =
-      rows_length 5 five_of (λ m. five_wide (loss o.k accts m) Max (total o accts)) (members o.n) ∙ ap (λ (n : ℕ). 5 * n) (length-range_with_len 1 o.n)
+      rows_length 5 five_of (members o.n) (λ m i. five_wide (loss o.k accts m) Max (total o accts)) ∙ ap (λ (n : ℕ). 5 * n) (length-range_with_len 1 o.n)
 
   -- member i + 1's, on a day with losses
   pub share_written : ¬ (total o accts ≡ 0) → (i : ℕ) → i < o.n → share_in (dailies o Max accts) i ≡ share (loss o.k accts (1 + i)) (total o accts)
   unfolding dailies
   share_written some i h =
-      rows_at 5 five_of (λ m. five_wide (loss o.k accts m) Max (total o accts)) (members o.n) i 1 0 0 (omega (arith, length-range_with_len 1 o.n)) (omega arith)
+      rows_at 5 five_of (members o.n) (λ m k. five_wide (loss o.k accts m) Max (total o accts)) i 1 0 0
+      (omega (arith, length-range_with_len 1 o.n)) (omega arith)
       ∙ ap (λ (m : ℕ). get_or (five_of m) 1 0) (get_or-range_with_len 1 o.n i 0 h)
       ∙ rw (five_some (loss o.k accts (1 + i)) Max (total o accts) some)

@@ -520,6 +520,12 @@ texts =
     ∷ ("period\t2\t1\nmember\t1\t4\nmember\t2\t24\nday\t11\t2\nacct\t1\t0\tH\t5744\t0\t0\t262067\nacct\t2\t0\tH\t136\t0\t0\t124658\nday\t19\t2\nacct\t1\t0\tH\t-69\t2872\t0\t-129\nacct\t2\t0\tH\t-9\t391\t0\t-401\nend\n" gives "day\t11\t0\t0\ndaily\t1\t0\t0\t0\t0\t0\ndaily\t2\t0\t0\t0\t0\t0\ntotal\t0\t0\t0\t0\t0\nday\t19\t1\t1\ndaily\t1\t0\t0\t0\t0\t0\ndaily\t2\t1\t1000000000000\t100\t110\t220\ntotal\t1\t1000000000000\t100\t110\t220\nfund\t1\t1\t100000000\ncontribution\t1\t0\t50000000\t100000000\ncontribution\t2\t2\t50000000\t100000000\n")
     -- 3 for a number below that of a day without losses
     ∷ ("period\t2\t1\nmember\t1\t0\nmember\t2\t0\nday\t3\t2\nacct\t1\t0\tH\t0\t0\t0\t0\nacct\t2\t0\tH\t0\t0\t0\t0\nday\t2\t2\nacct\t1\t0\tH\t390000000\t0\t0\t0\nacct\t2\t0\tH\t10000000\t0\t0\t0\nend\n" gives "day\t3\t0\t0\ndaily\t1\t0\t0\t0\t0\t0\ndaily\t2\t0\t0\t0\t0\t0\ntotal\t0\t0\t0\t0\t0\nrefused\t3\t7\n")
+    -- the two largest of kind R in every order, with a tie of their own EULs
+    ∷ ("period\t1\t2\nmember\t1\t0\nday\t1\t4\nacct\t1\t0\tH\t0\t0\t0\t-2\t-2\nacct\t1\t1\tR\t0\t0\t0\t-3\t-5\nacct\t1\t2\tR\t0\t2\t1\t-6\t-2\nacct\t1\t3\tU\t0\t4\t4\t-1\t-1\nday\t2\t4\nacct\t1\t0\tH\t0\t0\t0\t-2\t-2\nacct\t1\t1\tR\t0\t0\t0\t-3\t-5\nacct\t1\t2\tU\t0\t4\t4\t-1\t-1\nacct\t1\t3\tR\t0\t2\t1\t-6\t-2\nday\t3\t4\nacct\t1\t0\tH\t0\t0\t0\t-2\t-2\nacct\t1\t1\tR\t0\t2\t1\t-6\t-2\nacct\t1\t2\tR\t0\t0\t0\t-3\t-5\nacct\t1\t3\tU\t0\t4\t4\t-1\t-1\nday\t4\t4\nacct\t1\t0\tH\t0\t0\t0\t-2\t-2\nacct\t1\t1\tR\t0\t2\t1\t-6\t-2\nacct\t1\t2\tU\t0\t4\t4\t-1\t-1\nacct\t1\t3\tR\t0\t0\t0\t-3\t-5\nday\t5\t4\nacct\t1\t0\tH\t0\t0\t0\t-2\t-2\nacct\t1\t1\tU\t0\t4\t4\t-1\t-1\nacct\t1\t2\tR\t0\t0\t0\t-3\t-5\nacct\t1\t3\tR\t0\t2\t1\t-6\t-2\nday\t6\t4\nacct\t1\t0\tH\t0\t0\t0\t-2\t-2\nacct\t1\t1\tU\t0\t4\t4\t-1\t-1\nacct\t1\t2\tR\t0\t2\t1\t-6\t-2\nacct\t1\t3\tR\t0\t0\t0\t-3\t-5\nend\n" gives "day\t1\t13\t11\ndaily\t1\t13\t1000000000000\t1100\t1210\t2420\ntotal\t13\t1000000000000\t1100\t1210\t2420\nday\t2\t13\t11\ndaily\t1\t13\t1000000000000\t1100\t1210\t2420\ntotal\t13\t1000000000000\t1100\t1210\t2420\nday\t3\t13\t11\ndaily\t1\t13\t1000000000000\t1100\t1210\t2420\ntotal\t13\t1000000000000\t1100\t1210\t2420\nday\t4\t13\t11\ndaily\t1\t13\t1000000000000\t1100\t1210\t2420\ntotal\t13\t1000000000000\t1100\t1210\t2420\nday\t5\t13\t11\ndaily\t1\t13\t1000000000000\t1100\t1210\t2420\ntotal\t13\t1000000000000\t1100\t1210\t2420\nday\t6\t13\t11\ndaily\t1\t13\t1000000000000\t1100\t1210\t2420\ntotal\t13\t1000000000000\t1100\t1210\t2420\nfund\t6\t11\t50000000\ncontribution\t1\t13\t50000000\t100000000\n")
+    -- two equal accounts of kind R, the largest, in every order
+    ∷ ("period\t1\t1\nmember\t1\t0\nday\t1\t5\nacct\t1\t0\tH\t0\t0\t0\t-2\nacct\t1\t1\tA\t0\t0\t0\t-1\nacct\t1\t2\tR\t0\t0\t0\t-2\nacct\t1\t3\tR\t0\t1\t0\t-4\nacct\t1\t4\tR\t0\t1\t0\t-4\nday\t2\t5\nacct\t1\t0\tH\t0\t0\t0\t-2\nacct\t1\t1\tA\t0\t0\t0\t-1\nacct\t1\t2\tR\t0\t1\t0\t-4\nacct\t1\t3\tR\t0\t0\t0\t-2\nacct\t1\t4\tR\t0\t1\t0\t-4\nday\t3\t5\nacct\t1\t0\tH\t0\t0\t0\t-2\nacct\t1\t1\tA\t0\t0\t0\t-1\nacct\t1\t2\tR\t0\t1\t0\t-4\nacct\t1\t3\tR\t0\t1\t0\t-4\nacct\t1\t4\tR\t0\t0\t0\t-2\nday\t4\t5\nacct\t1\t0\tH\t0\t0\t0\t-2\nacct\t1\t1\tR\t0\t0\t0\t-2\nacct\t1\t2\tA\t0\t0\t0\t-1\nacct\t1\t3\tR\t0\t1\t0\t-4\nacct\t1\t4\tR\t0\t1\t0\t-4\nday\t5\t5\nacct\t1\t0\tH\t0\t0\t0\t-2\nacct\t1\t1\tR\t0\t0\t0\t-2\nacct\t1\t2\tR\t0\t1\t0\t-4\nacct\t1\t3\tA\t0\t0\t0\t-1\nacct\t1\t4\tR\t0\t1\t0\t-4\nday\t6\t5\nacct\t1\t0\tH\t0\t0\t0\t-2\nacct\t1\t1\tR\t0\t0\t0\t-2\nacct\t1\t2\tR\t0\t1\t0\t-4\nacct\t1\t3\tR\t0\t1\t0\t-4\nacct\t1\t4\tA\t0\t0\t0\t-1\nday\t7\t5\nacct\t1\t0\tH\t0\t0\t0\t-2\nacct\t1\t1\tR\t0\t1\t0\t-4\nacct\t1\t2\tA\t0\t0\t0\t-1\nacct\t1\t3\tR\t0\t0\t0\t-2\nacct\t1\t4\tR\t0\t1\t0\t-4\nday\t8\t5\nacct\t1\t0\tH\t0\t0\t0\t-2\nacct\t1\t1\tR\t0\t1\t0\t-4\nacct\t1\t2\tA\t0\t0\t0\t-1\nacct\t1\t3\tR\t0\t1\t0\t-4\nacct\t1\t4\tR\t0\t0\t0\t-2\nday\t9\t5\nacct\t1\t0\tH\t0\t0\t0\t-2\nacct\t1\t1\tR\t0\t1\t0\t-4\nacct\t1\t2\tR\t0\t0\t0\t-2\nacct\t1\t3\tA\t0\t0\t0\t-1\nacct\t1\t4\tR\t0\t1\t0\t-4\nday\t10\t5\nacct\t1\t0\tH\t0\t0\t0\t-2\nacct\t1\t1\tR\t0\t1\t0\t-4\nacct\t1\t2\tR\t0\t0\t0\t-2\nacct\t1\t3\tR\t0\t1\t0\t-4\nacct\t1\t4\tA\t0\t0\t0\t-1\nday\t11\t5\nacct\t1\t0\tH\t0\t0\t0\t-2\nacct\t1\t1\tR\t0\t1\t0\t-4\nacct\t1\t2\tR\t0\t1\t0\t-4\nacct\t1\t3\tA\t0\t0\t0\t-1\nacct\t1\t4\tR\t0\t0\t0\t-2\nday\t12\t5\nacct\t1\t0\tH\t0\t0\t0\t-2\nacct\t1\t1\tR\t0\t1\t0\t-4\nacct\t1\t2\tR\t0\t1\t0\t-4\nacct\t1\t3\tR\t0\t0\t0\t-2\nacct\t1\t4\tA\t0\t0\t0\t-1\nend\n" gives "day\t1\t9\t9\ndaily\t1\t9\t1000000000000\t900\t990\t1980\ntotal\t9\t1000000000000\t900\t990\t1980\nday\t2\t9\t9\ndaily\t1\t9\t1000000000000\t900\t990\t1980\ntotal\t9\t1000000000000\t900\t990\t1980\nday\t3\t9\t9\ndaily\t1\t9\t1000000000000\t900\t990\t1980\ntotal\t9\t1000000000000\t900\t990\t1980\nday\t4\t9\t9\ndaily\t1\t9\t1000000000000\t900\t990\t1980\ntotal\t9\t1000000000000\t900\t990\t1980\nday\t5\t9\t9\ndaily\t1\t9\t1000000000000\t900\t990\t1980\ntotal\t9\t1000000000000\t900\t990\t1980\nday\t6\t9\t9\ndaily\t1\t9\t1000000000000\t900\t990\t1980\ntotal\t9\t1000000000000\t900\t990\t1980\nday\t7\t9\t9\ndaily\t1\t9\t1000000000000\t900\t990\t1980\ntotal\t9\t1000000000000\t900\t990\t1980\nday\t8\t9\t9\ndaily\t1\t9\t1000000000000\t900\t990\t1980\ntotal\t9\t1000000000000\t900\t990\t1980\nday\t9\t9\t9\ndaily\t1\t9\t1000000000000\t900\t990\t1980\ntotal\t9\t1000000000000\t900\t990\t1980\nday\t10\t9\t9\ndaily\t1\t9\t1000000000000\t900\t990\t1980\ntotal\t9\t1000000000000\t900\t990\t1980\nday\t11\t9\t9\ndaily\t1\t9\t1000000000000\t900\t990\t1980\ntotal\t9\t1000000000000\t900\t990\t1980\nday\t12\t9\t9\ndaily\t1\t9\t1000000000000\t900\t990\t1980\ntotal\t9\t1000000000000\t900\t990\t1980\nfund\t12\t9\t50000000\ncontribution\t1\t10\t50000000\t100000000\n")
+    -- half the clients' sum, with a half dollar, in every order
+    ∷ ("period\t1\t1\nmember\t1\t0\nday\t1\t4\nacct\t1\t0\tH\t0\t0\t0\t-2\nacct\t1\t1\tA\t0\t0\t0\t-3\nacct\t1\t2\tR\t0\t0\t0\t-1\nacct\t1\t3\tU\t0\t1\t1\t-1\nday\t2\t4\nacct\t1\t0\tH\t0\t0\t0\t-2\nacct\t1\t1\tA\t0\t0\t0\t-3\nacct\t1\t2\tU\t0\t1\t1\t-1\nacct\t1\t3\tR\t0\t0\t0\t-1\nday\t3\t4\nacct\t1\t0\tH\t0\t0\t0\t-2\nacct\t1\t1\tR\t0\t0\t0\t-1\nacct\t1\t2\tA\t0\t0\t0\t-3\nacct\t1\t3\tU\t0\t1\t1\t-1\nday\t4\t4\nacct\t1\t0\tH\t0\t0\t0\t-2\nacct\t1\t1\tR\t0\t0\t0\t-1\nacct\t1\t2\tU\t0\t1\t1\t-1\nacct\t1\t3\tA\t0\t0\t0\t-3\nday\t5\t4\nacct\t1\t0\tH\t0\t0\t0\t-2\nacct\t1\t1\tU\t0\t1\t1\t-1\nacct\t1\t2\tA\t0\t0\t0\t-3\nacct\t1\t3\tR\t0\t0\t0\t-1\nday\t6\t4\nacct\t1\t0\tH\t0\t0\t0\t-2\nacct\t1\t1\tU\t0\t1\t1\t-1\nacct\t1\t2\tR\t0\t0\t0\t-1\nacct\t1\t3\tA\t0\t0\t0\t-3\nend\n" gives "day\t1\t9\t9\ndaily\t1\t9\t1000000000000\t900\t990\t1980\ntotal\t9\t1000000000000\t900\t990\t1980\nday\t2\t9\t9\ndaily\t1\t9\t1000000000000\t900\t990\t1980\ntotal\t9\t1000000000000\t900\t990\t1980\nday\t3\t9\t9\ndaily\t1\t9\t1000000000000\t900\t990\t1980\ntotal\t9\t1000000000000\t900\t990\t1980\nday\t4\t9\t9\ndaily\t1\t9\t1000000000000\t900\t990\t1980\ntotal\t9\t1000000000000\t900\t990\t1980\nday\t5\t9\t9\ndaily\t1\t9\t1000000000000\t900\t990\t1980\ntotal\t9\t1000000000000\t900\t990\t1980\nday\t6\t9\t9\ndaily\t1\t9\t1000000000000\t900\t990\t1980\ntotal\t9\t1000000000000\t900\t990\t1980\nfund\t6\t9\t50000000\ncontribution\t1\t10\t50000000\t100000000\n")
     ∷ []
 
 -- Up to here it is written.

@@ -4,9 +4,10 @@ use mathlib.Core.Path.{◌≡◌, refl, sym, ap, ap₂, ◌∙◌, subst}
 use mathlib.Core.Bool.{Bool, true, false, not, cond, ◌||◌, or-true}
 use mathlib.Core.List.{List, [], ◌∷◌, ◌++◌, map, flat_map, append-nil}
 use mathlib.Core.List.Memᴰ
+use mathlib.Core.List.Permᴰ
 use mathlib.Core.List.Memᴰ.{head as here}
 use mathlib.Core.List.Memᴰ.{tail as there}
-use mathlib.Core.List.{Memᴰ}
+use mathlib.Core.List.{Memᴰ, Permᴰ}
 use Prim.Native.Nat.{ℕ, zero, suc, ◌+◌, ◌-◌, ◌≤◌, ◌<◌}
 use native.Mathlib.Omega.{arith}
 use native.Mathlib.Numerals.{add-one}
@@ -168,6 +169,34 @@ keep_none p (x ∷ xs) h = rw (h x (here refl), keep_none p xs (λ y m. h y (the
 pub keep_all : {A : Type 0} (p : A → Bool) (xs : List A) → ((x : A) → x ∈ xs → p x ≡ true) → filter p xs ≡ xs
 keep_all p [] h = refl
 keep_all p (x ∷ xs) h = rw (h x (here refl), keep_all p xs (λ y m. h y (there m)))
+
+-- where the elements stand in another order, so do those that pass
+pub keep_perm : {A : Type 0} (p : A → Bool) {xs ys : List A} → Permᴰ xs ys → Permᴰ (filter p xs) (filter p ys)
+keep_perm p Permᴰ.nil = Permᴰ.nil
+keep_perm p (Permᴰ.cons {a} {b} {l₁} {l₂} e s) = rw (← e) (by (p a) (keep_perm p s))
+  where
+    by : (t : Bool) → Permᴰ (filter p l₁) (filter p l₂) → Permᴰ (cond t (a ∷ filter p l₁) (filter p l₁)) (cond t (a ∷ filter p l₂) (filter p l₂))
+    by true s = Permᴰ.cons refl s
+    by false s = s
+keep_perm p (Permᴰ.swap {a} {b} {l = l} e q) = rw (← e, ← q) (by (p a) (p b))
+  where
+    by : (s t : Bool) → Permᴰ (cond s (a ∷ cond t (b ∷ filter p l) (filter p l)) (cond t (b ∷ filter p l) (filter p l)))
+        (cond t (b ∷ cond s (a ∷ filter p l) (filter p l)) (cond s (a ∷ filter p l) (filter p l)))
+    by true true = Permᴰ.swap refl refl
+    by true false = Permᴰ.refl (a ∷ filter p l)
+    by false true = Permᴰ.refl (b ∷ filter p l)
+    by false false = Permᴰ.refl (filter p l)
+keep_perm p (Permᴰ.trans s t) = Permᴰ.trans (keep_perm p s) (keep_perm p t)
+
+-- those of a mapped list that pass
+pub keep_map : {A B : Type 0} (p : B → Bool) (f : A → B) (xs : List A) → filter p (map f xs) ≡ map f (filter (λ x. p (f x)) xs)
+keep_map p f [] = refl
+keep_map p f (x ∷ xs) = rw (keep_map p f xs) (by (p (f x)))
+  where
+    by : (t : Bool) → cond t (f x ∷ map f (filter (λ y. p (f y)) xs)) (map f (filter (λ y. p (f y)) xs))
+        ≡ map f (cond t (x ∷ filter (λ y. p (f y)) xs) (filter (λ y. p (f y)) xs))
+    by true = refl
+    by false = refl
 
 -- where the elements from a to b - 1 pass a test and no others do, they are those that pass
 pub keep_part : {A : Type 0} (p : A → Bool) (xs : List A) (d : A) (a b : ℕ) → a ≤ b → b ≤ length xs

@@ -9,7 +9,7 @@ use Prim.Native.Nat.{ℕ, zero, suc, ◌+◌, ◌*◌, ◌≤◌, ◌<◌, max}
 use native.Mathlib.Omega.{arith}
 use native.Mathlib.Numerals.{add-one}
 use lib.Dec.{eqb}
-use lib.IntN.{ℤ, nat_abs, ◌+ℤ◌, +ℤ_idl, +ℤ_idr, +ℤ_assoc}
+use lib.IntN.{ℤ, nat_abs, ◌+ℤ◌, +ℤ_idl, +ℤ_idr, +ℤ_assoc, +ℤ_comm}
 use lib.Signed.{◌≤ℤ◌}
 use lib.ListN.{length, get_or, take, drop, take-append-drop}
 use lib.Seq.{take-suc}
@@ -164,6 +164,22 @@ unfolding Σℤ
 pub Σℤ-snoc : {A : Type 0} (xs : List A) (x : A) (f : A → ℤ) → Σℤ (xs ++ (x ∷ [])) f ≡ Σℤ xs f +ℤ f x
 unfolding Σℤ
 Σℤ-snoc xs x f = Σℤ-append xs (x ∷ []) f ∙ ap (λ (z : ℤ). Σℤ xs f +ℤ z) (+ℤ_idr (f x))
+
+pub Σℤ-map : {A B : Type 0} (g : A → B) (xs : List A) (f : B → ℤ) → Σℤ (map g xs) f ≡ Σℤ xs (λ x. f (g x))
+unfolding Σℤ
+Σℤ-map g [] f = refl
+Σℤ-map g (x ∷ xs) f = ap (λ (z : ℤ). f (g x) +ℤ z) (Σℤ-map g xs f)
+
+-- a permutation changes nothing
++ℤ_swap : (x y s : ℤ) → x +ℤ (y +ℤ s) ≡ y +ℤ (x +ℤ s)
++ℤ_swap x y s = sym (+ℤ_assoc x y s) ∙ ap (λ (z : ℤ). z +ℤ s) (+ℤ_comm x y) ∙ +ℤ_assoc y x s
+
+pub Σℤ-perm : {A : Type 0} {xs ys : List A} → Permᴰ xs ys → (f : A → ℤ) → Σℤ xs f ≡ Σℤ ys f
+unfolding Σℤ
+Σℤ-perm Permᴰ.nil f = refl
+Σℤ-perm (Permᴰ.cons e p) f = ap₂ ◌+ℤ◌ (ap f e) (Σℤ-perm p f)
+Σℤ-perm (Permᴰ.swap {a} {b} {l = l} e q) f = +ℤ_swap (f a) (f b) (Σℤ l f) ∙ ap₂ (λ (u v : ℤ). u +ℤ (v +ℤ Σℤ l f)) (ap f q) (ap f e)
+Σℤ-perm (Permᴰ.trans p q) f = Σℤ-perm p f ∙ Σℤ-perm q f
 
 -- the positive part and the absolute value of a sum are at most those of its parts
 pub Σℤ-⁺ : {A : Type 0} (xs : List A) (f : A → ℤ) → Σℤ xs f ⁺ ≤ Σ xs (λ x. f x ⁺)

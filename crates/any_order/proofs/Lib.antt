@@ -1,0 +1,3 @@
+mod SameEul
+mod EveryOrder
+pub mod AnyOrder
