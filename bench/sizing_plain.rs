@@ -7,7 +7,7 @@
 use std::io::{self, Read, Write};
 
 const AMOUNT: u64 = 1_000_000_000_000;
-const SHARE: u128 = 1_000_000_000_000;
+const SHARE: u128 = 1_000_000_000_000_000;
 const MINIMUM: u64 = 50_000_000;
 
 const MEMBERS: usize = 32;

@@ -9,7 +9,7 @@ from math import ceil
 
 WIDTH, HEIGHT = 1000, 440
 LEFT, RIGHT, TOP, ZERO = 64, 976, 104, 384      # the plot; its foot is the zero line
-WHOLE = 10**12                                  # the share of a member that has the whole loss
+WHOLE = 10**15                                  # the share of a member that has the whole loss
 DARK, GREY, GRID, BLUE, RED = "#1f2933", "#5b6770", "#e1e5ea", "#2f6690", "#c4452d"
 
 

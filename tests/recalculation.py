@@ -1,5 +1,5 @@
 #!/usr/bin/env python3
-"""Document 01, with Changes 1 to 5 of document 02, recalculated in its own order, with exact fractions.
+"""Document 01, with Changes 1 to 6 of document 02, recalculated in its own order, with exact fractions.
 
 Reads a month's text on standard input and writes the report on standard output.
 """
@@ -10,7 +10,7 @@ from fractions import Fraction
 from math import ceil, floor
 
 AMOUNT = 10**12             # the limit of every amount
-SHARE = 10**12              # a share is printed in parts of this
+SHARE = 10**15              # a share is printed in parts of this (document 02, Change 6)
 MINIMUM = 50_000_000        # the least funded contribution
 H, R, A, U = 0, 1, 2, 3     # kinds; any other letter or word is 9
 KINDS = {b"H": H, b"R": R, b"A": A, b"U": U}

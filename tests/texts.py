@@ -42,6 +42,11 @@ def falls(member, *amounts, margin=0):
     return acct(member, 0, "H", 0, margin, 0, *(-amount for amount in amounts))
 
 
+def from_limit_to_limit(member, account, kind):
+    """An account that falls by twice the limit of an amount under the only scenario."""
+    return acct(member, account, kind, 10**12, 0, 0, -10**12)
+
+
 def more(line, field=0):
     return f"{line}\t{field}"
 
@@ -625,8 +630,67 @@ ANY_ORDER = [
     ("half the clients' sum, with a half dollar, in every order", in_every_order(1, ("R", 0, 0, 1), ("A", 0, 0, 3), ("U", 1, 1, 1))),
 ]
 
+# Finer shares (document 02, Change 6): a loss beside one that is far greater, and losses that a coarser fraction does not tell apart.
+FINER = [
+    ("one dollar beside twice the limit of an amount", month(1, [0, 0], (1, from_limit_to_limit(1, 0, "H"), house(2, 1)))),
+    ("one, two and three dollars beside twice the limit of an amount for each of two members", month(
+        1, [0] * 5, (1, *(from_limit_to_limit(i, 0, "H") for i in (1, 2)), house(3, 1), house(4, 2), house(5, 3)))),
+    ("one dollar beside the most that another member can lose", month(
+        1, [0, 0], (1, *(from_limit_to_limit(1, i, "U" if i else "H") for i in range(255)), house(2, 1)))),
+    ("thirds on each of 31 days", month(1, [0] * 3, *((number, *(house(i, 10**12) for i in (1, 2, 3))) for number in range(1, 32)))),
+]
+
+# Months drawn at random; a part is one of 10^15.
+PARTS = [
+    ("four members, two scenarios: shares of one dollar and of 131,124 beside millions of millions, M on the last of four days", stored("finer-00")),
+    ("one member: the whole loss, of 5 dollars", stored("finer-01")),
+    ("two members: 7 dollars beside 69, 470 and 90 millions, on either side", stored("finer-02")),
+    ("four members: T 8, 8,000 and 8, each share without a remainder", stored("finer-03")),
+    ("one member with clients: three days of 5 and 6 dollars", stored("finer-04")),
+    ("one member: T 13 and Max EUL 3, then a day of one dollar", stored("finer-05")),
+    ("one member: the whole loss on four equal days", stored("finer-06")),
+    ("two members: one dollar beside 45,454,543, charged three dollars below the minimum", stored("finer-07")),
+    ("four members of one group, of whom one and then two lose", stored("finer-08")),
+    ("one member: a day without losses and two of millions of millions; 5 on a fourth, which has no house account", stored("finer-09")),
+    ("two members: 7 dollars beside 524,299,860; 3 on a second day", stored("finer-10")),
+    ("two groups of one member each: the whole loss is one's; 5 on a second day for a house account of number 1", stored("finer-11")),
+    ("one member: 6 dollars, then 11 millions, then 3 dollars, then none", stored("finer-12")),
+    ("two members of one group: one dollar beside ten thousand millions; 5 on a third day, where the last member is missing", stored("finer-13")),
+    ("32 members, 16 scenarios: equal losses, each share without a remainder", stored("finer-14")),
+    ("two members: 7 dollars beside hundreds of millions on two days; 3 on a third", stored("finer-15")),
+    ("three members: five days, each share without a remainder", stored("finer-16")),
+    ("one member: three days of 13, 7 and 6 dollars", stored("finer-17")),
+    ("four members: halves on one day and quarters on another, a day without losses between them", stored("finer-18")),
+    ("five members: equal losses on five days, charged below the minimum", stored("finer-19")),
+    ("five members, four of one group: thirds, then sevenths", stored("finer-20")),
+    ("two members: 7 dollars beside 395,085,172; 3 on a second day", stored("finer-21")),
+    ("three members: shares of 481 and of 489 parts; 5 on a third day, where a member is skipped", stored("finer-22")),
+    ("two members, three scenarios: the whole loss is one's, then parts, then the other's", stored("finer-23")),
+    ("one member: the whole loss, then a day without losses", stored("finer-24")),
+    ("one member: a day of one dollar and one of 16, days without losses before them", stored("finer-25")),
+    ("one member, three scenarios: T above its Max EUL", stored("finer-26")),
+    ("four members: 10 dollars of 82,669 after a day of millions of millions; a day without losses last", stored("finer-27")),
+    ("four members: one dollar, 3 dollars, millions of millions, and thirds of 12 dollars", stored("finer-28")),
+    ("one member: days without losses after one of millions of millions and after one of one dollar", stored("finer-29")),
+    ("two members of one group, of whom one has the whole loss", stored("finer-30")),
+    ("two members of one group: a share of 334 parts, of one dollar in three millions of millions", stored("finer-31")),
+    ("four groups of one member each: a share of 2,000 parts, of 2 dollars in a million millions", stored("finer-32")),
+    ("four members: shares with remainders; 5 on a second day, where a member is skipped", stored("finer-33")),
+    ("four members of one group: one dollar beside 716,641,601,020; 9 on a second day for a field too few", stored("finer-34")),
+    ("four members: the whole loss is one's; 5 on a second day for a number that falls", stored("finer-35")),
+    ("two members: a day of parts, then one dollar; 9 for an acct line where a day line is due", stored("finer-36")),
+    ("two members of one group, of whom one has the whole loss; 9 on a second day for a blank after a number", stored("finer-37")),
+    ("one member: the whole loss; 9 for a day line of a field too many", stored("finer-38")),
+    ("one member: thirteen clients, T above its Max EUL", stored("finer-39")),
+    ("four members, three scenarios: one dollar each", stored("finer-40")),
+    ("four members, two of one group: a share of 577 parts, of one dollar; T below the Max EUL on the last two days", stored("finer-41")),
+    ("one member: eleven clients, T above its Max EUL; 9 for a surplus acct line", stored("finer-42")),
+]
+
 # Of the months of VALID the longest is run by `vectors` alone, of those of TOTALS all but these: cents rounded both ways, a group, two days
-# of one T, a day of own Max EUL 0, equal days; of those of NOT_BEGUN the first two are worked out, of those of SO_FAR and of QUIET six short ones each.
+# of one T, a day of own Max EUL 0, equal days; of those of NOT_BEGUN and of FINER the first two are worked out, of those of SO_FAR, QUIET
+# and PARTS six short ones each.
 WORKED = (BOTH + WORKED_ONLY + VALID[:5] + VALID[6:] + [TOTALS[i] for i in (1, 6, 12, 14, 15)] + NOT_BEGUN[:2]
-          + [SO_FAR[i] for i in (2, 8, 13, 18, 29, 43)] + WITHOUT_LOSSES + [QUIET[i] for i in (0, 6, 17, 19, 29, 44)] + ANY_ORDER)
-VECTORS = BOTH + VALID + VECTORS_ONLY + TOTALS + NOT_BEGUN + SO_FAR + WITHOUT_LOSSES + QUIET + ANY_ORDER
+          + [SO_FAR[i] for i in (2, 8, 13, 18, 29, 43)] + WITHOUT_LOSSES + [QUIET[i] for i in (0, 6, 17, 19, 29, 44)] + ANY_ORDER
+          + FINER[:2] + [PARTS[i] for i in (2, 7, 18, 20, 31, 32)])
+VECTORS = BOTH + VALID + VECTORS_ONLY + TOTALS + NOT_BEGUN + SO_FAR + WITHOUT_LOSSES + QUIET + ANY_ORDER + FINER + PARTS

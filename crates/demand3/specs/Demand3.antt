@@ -52,7 +52,8 @@ pub record Covers (g : Register) (said : Answer) (out : List ℕ) : Type 0 where
   pub returns : said ≡ accepted (length (counted g.held g.days) ∷ highest_max g ∷ Σ (members g.held.n) (funded_in out) ∷ [])
   pub proper : (m : ℕ) → 1 ≤ m → m ≤ g.held.n → Proper (exact_of g m)
   pub allowed : Proper (allowance (highest_max g))
-  -- "Each raw charge is at least the member's exact charge [..] and less than that plus 1 dollar plus 1.1M/10^12."
+  -- "Each raw charge is at least the member's exact charge [..] and less than that plus" the allowance, "1 dollar plus 1.1M/10^15" (document
+  -- 02, Change 6).
   pub at_least : (m : ℕ) → 1 ≤ m → m ≤ g.held.n → exact_of g m ≼ whole (raw_in out m)
   pub below : (m : ℕ) → 1 ≤ m → m ≤ g.held.n → whole (raw_in out m) ≺ exact_of g m ⊕ allowance (highest_max g)
   -- "All raw charges together are at least 110% of M and less than that plus n times the same allowance."

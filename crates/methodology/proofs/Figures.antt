@@ -13,7 +13,7 @@ use Rattle.numbers.specs.Fractions.{Fraction, ◌over◌, Proper, ◌≼◌, ◌
 use Rattle.methodology.specs.declared.Opening.{Opening}
 use Rattle.methodology.specs.Account.{DayInput, members, accounts, nobody}
 use Rattle.methodology.specs.Member.{member_under, member_own}
-use Rattle.methodology.specs.Day.{own_max_eul, five}
+use Rattle.methodology.specs.Day.{own_max_eul, share, five}
 use Rattle.methodology.specs.Contribution.{KeptDay, counted, sum_of_shares, raw, charge, exact_charge, allowance, shortfall}
 use Rattle.methodology.specs.Register.{Register, start, opening, day, closing, step, returned, written, buffer}
 use Rattle.methodology.proofs.Samples.{computed, H, R, A, U, Line, acct, minus, losing, houses, clients, day_of, opening_of}
@@ -83,7 +83,7 @@ cases =
     illustrated 550 (0 ∷ 1 ∷ 2 ∷ 3 ∷ 4 ∷ [])
     is (1800 ∷ 500
     ∷ 450 ∷ 200 ∷ 250 ∷ 500 ∷ 200 ∷ 200
-    ∷ 250000000000 ∷ 111111111112 ∷ 138888888889 ∷ 277777777778 ∷ 111111111112 ∷ 111111111112
+    ∷ 250000000000000 ∷ 111111111111112 ∷ 138888888888889 ∷ 277777777777778 ∷ 111111111111112 ∷ 111111111111112
     ∷ 12500 ∷ 5556 ∷ 6944 ∷ 13889 ∷ 5556 ∷ 5556
     ∷ 13750 ∷ 6111 ∷ 7639 ∷ 15278 ∷ 6111 ∷ 6111
     ∷ 27500 ∷ 12222 ∷ 15278 ∷ 30556 ∷ 12222 ∷ 12222
@@ -226,28 +226,38 @@ exact_cases =
     -- no day: the exact charge is 0 over 1 (document 02, Change 2), and a raw one 0, whatever M and the sum of shares would be
     ∷ parts (exact [] (groups (0 ∷ 0 ∷ [])) 1) is (0 ∷ 1 ∷ [])
     ∷ parts (exact [] (opening_of 3 2 (4 ∷ 4 ∷ 0 ∷ [])) 3) is (0 ∷ 1 ∷ [])
-    ∷ (charge 0 0 0 ∷ charge 400000000 1000000000000 0 ∷ charge 400000000 1000000000000 1 ∷ []) is (0 ∷ 0 ∷ 440000000 ∷ [])
+    ∷ (charge 0 0 0 ∷ charge 400000000 1000000000000000 0 ∷ charge 400000000 1000000000000000 1 ∷ []) is (0 ∷ 0 ∷ 440000000 ∷ [])
+    -- A share has fifteen places and is rounded up at the last of them (document 02, Change 6); where it has no remainder it stays. One dollar
+    -- of the greatest T has two parts.
+    ∷ (share 1 1000000000000000 ∷ share 1 1000000000000001 ∷ share 1 999999999999999 ∷ share 1 767000000000000 ∷ []) is (1 ∷ 1 ∷ 2 ∷ 2 ∷ [])
+    ∷ (share 0 7 ∷ share 2 3 ∷ share 7 7 ∷ []) is (0 ∷ 666666666666667 ∷ 1000000000000000 ∷ [])
+    -- and a charge divides the sum of such shares: of one part; of the most; and from one part to the next it passes a dollar
+    ∷ (charge 767000000000000 1 1 ∷ charge 767000000000000 31000000000000000 31 ∷ []) is (1 ∷ 843700000000000 ∷ [])
+    ∷ (charge 1 909090909090909 1 ∷ charge 1 909090909090910 1 ∷ []) is (1 ∷ 2 ∷ [])
     -- A day without losses: a member's five numbers are 0, whatever loss and Max EUL would be, and its own Max EUL is 0. A dollar is a loss.
     ∷ (five 0 0 0 ++ (five 0 400000000 0 ++ five 5 9 0)) is replicate 15 0
-    ∷ five 1 400000000 1 is (1 ∷ 1000000000000 ∷ 40000000000 ∷ 44000000000 ∷ 88000000000 ∷ [])
+    ∷ five 1 400000000 1 is (1 ∷ 1000000000000000 ∷ 40000000000 ∷ 44000000000 ∷ 88000000000 ∷ [])
     ∷ five 0 400000000 1 is replicate 5 0
     ∷ max_of (groups (0 ∷ 0 ∷ [])) (houses 1 (pos 0 ∷ minus 7 ∷ [])) is (0 ∷ [])
     ∷ max_of (groups (1 ∷ 1 ∷ [])) (houses 1 (minus 1 ∷ minus 7 ∷ [])) is (0 ∷ [])
     -- It does not count (document 02, Change 4): of these eight days the second, the fourth and the seventh do, the last first. The sums of
     -- shares, the raw and the exact charges are those of the three alone.
     ∷ map (λ d. d.number) (counted (groups (0 ∷ 0 ∷ [])) (kept with_days_without_losses)) is (7 ∷ 4 ∷ 2 ∷ [])
-    ∷ sums_and_charges (kept worst_first) is (1616666666667 ∷ 1383333333334 ∷ 237111112 ∷ 202888889 ∷ [])
-    ∷ sums_and_charges (kept with_days_without_losses) is (1616666666667 ∷ 1383333333334 ∷ 237111112 ∷ 202888889 ∷ [])
+    ∷ sums_and_charges (kept worst_first) is (1616666666666667 ∷ 1383333333333334 ∷ 237111112 ∷ 202888889 ∷ [])
+    ∷ sums_and_charges (kept with_days_without_losses) is (1616666666666667 ∷ 1383333333333334 ∷ 237111112 ∷ 202888889 ∷ [])
     ∷ exact with_days_without_losses (groups (0 ∷ 0 ∷ [])) 1 is_fraction 2134000000 over 9
     ∷ exact with_days_without_losses (groups (0 ∷ 0 ∷ [])) 2 is_fraction 1826000000 over 9
     -- where no day counts, all is as without a day
     ∷ (length (counted (groups (0 ∷ 0 ∷ [])) (kept only_without_losses)) ∷ sums_and_charges (kept only_without_losses)) is replicate 5 0
     ∷ parts (exact only_without_losses (groups (0 ∷ 0 ∷ [])) 1) is (0 ∷ 1 ∷ [])
     ∷ parts (exact only_without_losses (groups (0 ∷ 0 ∷ [])) 2) is (0 ∷ 1 ∷ [])
-    -- the allowance is 1 dollar where M is 0, 1 and 1.1 dollars where it is 10^12, and in the printed month 1.000429 dollars
+    -- The allowance is 1 dollar where M is 0, 1 and 1.1 dollars where it is 10^15, 1.0011 dollars where it is 10^12, 1.8437 where it is the most
+    -- that an M can be, and in the printed month 1.000000429 dollars (Change 6).
     ∷ allowance 0 is_fraction 1 over 1
-    ∷ allowance 1000000000000 is_fraction 21 over 10
-    ∷ allowance 390000000 is_fraction 1000429 over 1000000
+    ∷ allowance 1000000000000000 is_fraction 21 over 10
+    ∷ allowance 1000000000000 is_fraction 10011 over 10000
+    ∷ allowance 767000000000000 is_fraction 18437 over 10000
+    ∷ allowance 390000000 is_fraction 1000000429 over 1000000000
     -- the printed month's second member falls short by 39,275,000
     ∷ map shortfall (10725000 ∷ 0 ∷ 49999999 ∷ 50000000 ∷ 418275000 ∷ []) is (39275000 ∷ 50000000 ∷ 1 ∷ 0 ∷ 0 ∷ [])
     ∷ []

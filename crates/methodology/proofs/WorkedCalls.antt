@@ -1,6 +1,6 @@
 -- Calls worked by the register: document 01's printed month; M on each of three days; a month whose own Max EULs fall and rise; months
--- that have not begun; months with days without losses, and of such days alone; a period whose calls meet every condition of the refusal
--- table from both sides, and every pair of its order of precedence. One table, one theorem: each answer, and each number left in a buffer,
+-- that have not begun; months with days without losses, and of such days alone; shares of a few parts; a period whose calls meet every
+-- condition of the refusal table from both sides, and every pair of its order of precedence. One table, one theorem: each answer, and each number left in a buffer,
 -- is the one due. By computation. The figures were worked out from the documents by a recalculation of its own. The largest periods are in
 -- WorkedLimits.antt.
 use mathlib.Core.Path.{◌≡◌, refl}
@@ -19,8 +19,8 @@ printed =
     brings 2 1 (0 ∷ 0 ∷ []) gets accepted []
     ∷ day (day_of 3 (acct 1 0 H (pos 390000000) 0 0 (pos 0 ∷ []) ∷ acct 2 0 H (pos 10000000) 0 0 (pos 0 ∷ []) ∷ [])) 10
     gets accepted (400000000 ∷ 390000000 ∷ [])
-    writing (390000000 ∷ 975000000000 ∷ 38025000000 ∷ 41827500000 ∷ 83655000000
-    ∷ 10000000 ∷ 25000000000 ∷ 975000000 ∷ 1072500000 ∷ 2145000000 ∷ [])
+    writing (390000000 ∷ 975000000000000 ∷ 38025000000 ∷ 41827500000 ∷ 83655000000
+    ∷ 10000000 ∷ 25000000000000 ∷ 975000000 ∷ 1072500000 ∷ 2145000000 ∷ [])
     ∷ closing 6
     gets accepted (1 ∷ 390000000 ∷ 468275000 ∷ [])
     writing (418275000 ∷ 418275000 ∷ 836550000 ∷ 10725000 ∷ 50000000 ∷ 100000000 ∷ [])
@@ -37,37 +37,37 @@ abbrev worst : (number : ℕ) → Exchange
 worst number =
     losses number (400000000 ∷ 200000000 ∷ [])
     gets accepted (600000000 ∷ 400000000 ∷ [])
-    writing (400000000 ∷ 666666666667 ∷ 26666666667 ∷ 29333333333 ∷ 58666666667
-    ∷ 200000000 ∷ 333333333334 ∷ 13333333333 ∷ 14666666667 ∷ 29333333333 ∷ [])
+    writing (400000000 ∷ 666666666666667 ∷ 26666666667 ∷ 29333333333 ∷ 58666666667
+    ∷ 200000000 ∷ 333333333333334 ∷ 13333333333 ∷ 14666666667 ∷ 29333333333 ∷ [])
 
 abbrev middling : (number : ℕ) → Exchange
 middling number =
     losses number (100000000 ∷ 300000000 ∷ [])
     gets accepted (400000000 ∷ 300000000 ∷ [])
-    writing (100000000 ∷ 250000000000 ∷ 7500000000 ∷ 8250000000 ∷ 16500000000
-    ∷ 300000000 ∷ 750000000000 ∷ 22500000000 ∷ 24750000000 ∷ 49500000000 ∷ [])
+    writing (100000000 ∷ 250000000000000 ∷ 7500000000 ∷ 8250000000 ∷ 16500000000
+    ∷ 300000000 ∷ 750000000000000 ∷ 22500000000 ∷ 24750000000 ∷ 49500000000 ∷ [])
 
 abbrev least : (number : ℕ) → Exchange
 least number =
     losses number (70000000 ∷ 30000000 ∷ [])
     gets accepted (100000000 ∷ 70000000 ∷ [])
-    writing (70000000 ∷ 700000000000 ∷ 4900000000 ∷ 5390000000 ∷ 10780000000
-    ∷ 30000000 ∷ 300000000000 ∷ 2100000000 ∷ 2310000000 ∷ 4620000000 ∷ [])
+    writing (70000000 ∷ 700000000000000 ∷ 4900000000 ∷ 5390000000 ∷ 10780000000
+    ∷ 30000000 ∷ 300000000000000 ∷ 2100000000 ∷ 2310000000 ∷ 4620000000 ∷ [])
 
 -- after the worst they report its Max EUL, by which their cents go; the least one's T is below it (document 02, Change 3)
 abbrev middling_after : (number : ℕ) → Exchange
 middling_after number =
     losses number (100000000 ∷ 300000000 ∷ [])
     gets accepted (400000000 ∷ 400000000 ∷ [])
-    writing (100000000 ∷ 250000000000 ∷ 10000000000 ∷ 11000000000 ∷ 22000000000
-    ∷ 300000000 ∷ 750000000000 ∷ 30000000000 ∷ 33000000000 ∷ 66000000000 ∷ [])
+    writing (100000000 ∷ 250000000000000 ∷ 10000000000 ∷ 11000000000 ∷ 22000000000
+    ∷ 300000000 ∷ 750000000000000 ∷ 30000000000 ∷ 33000000000 ∷ 66000000000 ∷ [])
 
 abbrev least_after : (number : ℕ) → Exchange
 least_after number =
     losses number (70000000 ∷ 30000000 ∷ [])
     gets accepted (100000000 ∷ 400000000 ∷ [])
-    writing (70000000 ∷ 700000000000 ∷ 28000000000 ∷ 30800000000 ∷ 61600000000
-    ∷ 30000000 ∷ 300000000000 ∷ 12000000000 ∷ 13200000000 ∷ 26400000000 ∷ [])
+    writing (70000000 ∷ 700000000000000 ∷ 28000000000 ∷ 30800000000 ∷ 61600000000
+    ∷ 30000000 ∷ 300000000000000 ∷ 12000000000 ∷ 13200000000 ∷ 26400000000 ∷ [])
 
 -- the period of these days, in any order: D, M and both charges are the same
 abbrev closes_alike : (days : List Exchange) → List Exchange
@@ -91,10 +91,10 @@ so_far =
     brings 2 1 (0 ∷ 0 ∷ []) gets accepted []
     ∷ losses 3 (50 ∷ 30 ∷ [])
     gets accepted (80 ∷ 50 ∷ [])
-    writing (50 ∷ 625000000000 ∷ 3125 ∷ 3438 ∷ 6875 ∷ 30 ∷ 375000000000 ∷ 1875 ∷ 2063 ∷ 4125 ∷ [])
+    writing (50 ∷ 625000000000000 ∷ 3125 ∷ 3438 ∷ 6875 ∷ 30 ∷ 375000000000000 ∷ 1875 ∷ 2063 ∷ 4125 ∷ [])
     ∷ losses 5 (80 ∷ 20 ∷ [])
     gets accepted (100 ∷ 80 ∷ [])
-    writing (80 ∷ 800000000000 ∷ 6400 ∷ 7040 ∷ 14080 ∷ 20 ∷ 200000000000 ∷ 1600 ∷ 1760 ∷ 3520 ∷ [])
+    writing (80 ∷ 800000000000000 ∷ 6400 ∷ 7040 ∷ 14080 ∷ 20 ∷ 200000000000000 ∷ 1600 ∷ 1760 ∷ 3520 ∷ [])
     ∷ losses 5 (990 ∷ 10 ∷ []) gets refused 3
     ∷ losses 32 (990 ∷ 10 ∷ []) gets refused 3
     ∷ day (day_of 6 (houses 1 (pos 990 ∷ pos 10 ∷ []))) 9 gets refused 4
@@ -105,19 +105,19 @@ so_far =
     ∷ closing 5 gets refused 4
     ∷ losses 6 (20 ∷ 30 ∷ [])
     gets accepted (50 ∷ 80 ∷ [])
-    writing (20 ∷ 400000000000 ∷ 3200 ∷ 3520 ∷ 7040 ∷ 30 ∷ 600000000000 ∷ 4800 ∷ 5280 ∷ 10560 ∷ [])
+    writing (20 ∷ 400000000000000 ∷ 3200 ∷ 3520 ∷ 7040 ∷ 30 ∷ 600000000000000 ∷ 4800 ∷ 5280 ∷ 10560 ∷ [])
     ∷ losses 9 (60 ∷ 10 ∷ [])
     gets accepted (70 ∷ 80 ∷ [])
-    writing (60 ∷ 857142857143 ∷ 6857 ∷ 7543 ∷ 15086 ∷ 10 ∷ 142857142858 ∷ 1143 ∷ 1257 ∷ 2514 ∷ [])
+    writing (60 ∷ 857142857142858 ∷ 6857 ∷ 7543 ∷ 15086 ∷ 10 ∷ 142857142857143 ∷ 1143 ∷ 1257 ∷ 2514 ∷ [])
     ∷ losses 10 (5 ∷ 0 ∷ [])
     gets accepted (5 ∷ 80 ∷ [])
-    writing (5 ∷ 1000000000000 ∷ 8000 ∷ 8800 ∷ 17600 ∷ 0 ∷ 0 ∷ 0 ∷ 0 ∷ 0 ∷ [])
+    writing (5 ∷ 1000000000000000 ∷ 8000 ∷ 8800 ∷ 17600 ∷ 0 ∷ 0 ∷ 0 ∷ 0 ∷ 0 ∷ [])
     ∷ losses 20 (70 ∷ 90 ∷ [])
     gets accepted (160 ∷ 90 ∷ [])
-    writing (70 ∷ 437500000000 ∷ 3938 ∷ 4331 ∷ 8663 ∷ 90 ∷ 562500000000 ∷ 5063 ∷ 5569 ∷ 11138 ∷ [])
+    writing (70 ∷ 437500000000000 ∷ 3938 ∷ 4331 ∷ 8663 ∷ 90 ∷ 562500000000000 ∷ 5063 ∷ 5569 ∷ 11138 ∷ [])
     ∷ losses 31 (1 ∷ 2 ∷ [])
     gets accepted (3 ∷ 90 ∷ [])
-    writing (1 ∷ 333333333334 ∷ 3000 ∷ 3300 ∷ 6600 ∷ 2 ∷ 666666666667 ∷ 6000 ∷ 6600 ∷ 13200 ∷ [])
+    writing (1 ∷ 333333333333334 ∷ 3000 ∷ 3300 ∷ 6600 ∷ 2 ∷ 666666666666667 ∷ 6000 ∷ 6600 ∷ 13200 ∷ [])
     ∷ closing 6 gets accepted (7 ∷ 90 ∷ 100000000 ∷ []) writing (63 ∷ 50000000 ∷ 100000000 ∷ 37 ∷ 50000000 ∷ 100000000 ∷ [])
     ∷ []
 
@@ -127,10 +127,10 @@ so_far_again =
     brings 2 1 (0 ∷ 0 ∷ []) gets accepted []
     ∷ losses 1 (3 ∷ 1 ∷ [])
     gets accepted (4 ∷ 3 ∷ [])
-    writing (3 ∷ 750000000000 ∷ 225 ∷ 248 ∷ 495 ∷ 1 ∷ 250000000000 ∷ 75 ∷ 83 ∷ 165 ∷ [])
+    writing (3 ∷ 750000000000000 ∷ 225 ∷ 248 ∷ 495 ∷ 1 ∷ 250000000000000 ∷ 75 ∷ 83 ∷ 165 ∷ [])
     ∷ losses 2 (2 ∷ 2 ∷ [])
     gets accepted (4 ∷ 3 ∷ [])
-    writing (2 ∷ 500000000000 ∷ 150 ∷ 165 ∷ 330 ∷ 2 ∷ 500000000000 ∷ 150 ∷ 165 ∷ 330 ∷ [])
+    writing (2 ∷ 500000000000000 ∷ 150 ∷ 165 ∷ 330 ∷ 2 ∷ 500000000000000 ∷ 150 ∷ 165 ∷ 330 ∷ [])
     ∷ closing 6 gets accepted (2 ∷ 3 ∷ 100000000 ∷ []) writing (3 ∷ 50000000 ∷ 100000000 ∷ 2 ∷ 50000000 ∷ 100000000 ∷ [])
     ∷ []
 
@@ -221,7 +221,7 @@ numbers_count =
     ∷ losses 4 (0 ∷ 1000000000001 ∷ []) gets refused 3
     ∷ losses 6 (10 ∷ 30 ∷ [])
     gets accepted (40 ∷ 30 ∷ [])
-    writing (10 ∷ 250000000000 ∷ 750 ∷ 825 ∷ 1650 ∷ 30 ∷ 750000000000 ∷ 2250 ∷ 2475 ∷ 4950 ∷ [])
+    writing (10 ∷ 250000000000000 ∷ 750 ∷ 825 ∷ 1650 ∷ 30 ∷ 750000000000000 ∷ 2250 ∷ 2475 ∷ 4950 ∷ [])
     ∷ without_losses 9 30
     ∷ losses 7 (10 ∷ 30 ∷ []) gets refused 3
     ∷ losses 9 (10 ∷ 30 ∷ []) gets refused 3
@@ -229,7 +229,7 @@ numbers_count =
     ∷ losses 9 (0 ∷ 0 ∷ []) gets refused 3
     ∷ losses 10 (30 ∷ 10 ∷ [])
     gets accepted (40 ∷ 30 ∷ [])
-    writing (30 ∷ 750000000000 ∷ 2250 ∷ 2475 ∷ 4950 ∷ 10 ∷ 250000000000 ∷ 750 ∷ 825 ∷ 1650 ∷ [])
+    writing (30 ∷ 750000000000000 ∷ 2250 ∷ 2475 ∷ 4950 ∷ 10 ∷ 250000000000000 ∷ 750 ∷ 825 ∷ 1650 ∷ [])
     ∷ without_losses 31 30
     ∷ losses 31 (10 ∷ 10 ∷ []) gets refused 3
     ∷ losses 30 (10 ∷ 10 ∷ []) gets refused 3
@@ -273,12 +273,12 @@ only_without_losses =
 abbrev one_dollar : List Exchange
 one_dollar =
     brings 2 1 (0 ∷ 0 ∷ []) gets accepted []
-    ∷ losses 1 (1 ∷ 0 ∷ []) gets accepted (1 ∷ 1 ∷ []) writing (1 ∷ 1000000000000 ∷ 100 ∷ 110 ∷ 220 ∷ replicate 5 0)
+    ∷ losses 1 (1 ∷ 0 ∷ []) gets accepted (1 ∷ 1 ∷ []) writing (1 ∷ 1000000000000000 ∷ 100 ∷ 110 ∷ 220 ∷ replicate 5 0)
     ∷ without_losses 2 1
     ∷ closing 6 gets accepted (1 ∷ 1 ∷ 100000000 ∷ []) writing (2 ∷ 50000000 ∷ 100000000 ∷ 0 ∷ 50000000 ∷ 100000000 ∷ [])
     ∷ brings 2 1 (0 ∷ 0 ∷ []) gets accepted []
     ∷ without_losses 1 0
-    ∷ losses 2 (0 ∷ 1 ∷ []) gets accepted (1 ∷ 1 ∷ []) writing (0 ∷ 0 ∷ 0 ∷ 0 ∷ 0 ∷ 1 ∷ 1000000000000 ∷ 100 ∷ 110 ∷ 220 ∷ [])
+    ∷ losses 2 (0 ∷ 1 ∷ []) gets accepted (1 ∷ 1 ∷ []) writing (0 ∷ 0 ∷ 0 ∷ 0 ∷ 0 ∷ 1 ∷ 1000000000000000 ∷ 100 ∷ 110 ∷ 220 ∷ [])
     ∷ without_losses 3 1
     ∷ without_losses 4 1
     ∷ closing 6 gets accepted (1 ∷ 1 ∷ 100000000 ∷ []) writing (0 ∷ 50000000 ∷ 100000000 ∷ 2 ∷ 50000000 ∷ 100000000 ∷ [])
@@ -289,22 +289,22 @@ abbrev first_of_five : List Exchange
 first_of_five =
     losses 1 (10 ∷ 10 ∷ [])
     gets accepted (20 ∷ 10 ∷ [])
-    writing (10 ∷ 500000000000 ∷ 500 ∷ 550 ∷ 1100 ∷ 10 ∷ 500000000000 ∷ 500 ∷ 550 ∷ 1100 ∷ [])
-    ∷ losses 2 (4 ∷ 6 ∷ []) gets accepted (10 ∷ 10 ∷ []) writing (4 ∷ 400000000000 ∷ 400 ∷ 440 ∷ 880 ∷ 6 ∷ 600000000000 ∷ 600 ∷ 660 ∷ 1320 ∷ [])
-    ∷ losses 3 (3 ∷ 7 ∷ []) gets accepted (10 ∷ 10 ∷ []) writing (3 ∷ 300000000000 ∷ 300 ∷ 330 ∷ 660 ∷ 7 ∷ 700000000000 ∷ 700 ∷ 770 ∷ 1540 ∷ [])
-    ∷ losses 4 (1 ∷ 9 ∷ []) gets accepted (10 ∷ 10 ∷ []) writing (1 ∷ 100000000000 ∷ 100 ∷ 110 ∷ 220 ∷ 9 ∷ 900000000000 ∷ 900 ∷ 990 ∷ 1980 ∷ [])
-    ∷ losses 5 (7 ∷ 2 ∷ []) gets accepted (9 ∷ 10 ∷ []) writing (7 ∷ 777777777778 ∷ 778 ∷ 856 ∷ 1711 ∷ 2 ∷ 222222222223 ∷ 222 ∷ 244 ∷ 489 ∷ [])
+    writing (10 ∷ 500000000000000 ∷ 500 ∷ 550 ∷ 1100 ∷ 10 ∷ 500000000000000 ∷ 500 ∷ 550 ∷ 1100 ∷ [])
+    ∷ losses 2 (4 ∷ 6 ∷ []) gets accepted (10 ∷ 10 ∷ []) writing (4 ∷ 400000000000000 ∷ 400 ∷ 440 ∷ 880 ∷ 6 ∷ 600000000000000 ∷ 600 ∷ 660 ∷ 1320 ∷ [])
+    ∷ losses 3 (3 ∷ 7 ∷ []) gets accepted (10 ∷ 10 ∷ []) writing (3 ∷ 300000000000000 ∷ 300 ∷ 330 ∷ 660 ∷ 7 ∷ 700000000000000 ∷ 700 ∷ 770 ∷ 1540 ∷ [])
+    ∷ losses 4 (1 ∷ 9 ∷ []) gets accepted (10 ∷ 10 ∷ []) writing (1 ∷ 100000000000000 ∷ 100 ∷ 110 ∷ 220 ∷ 9 ∷ 900000000000000 ∷ 900 ∷ 990 ∷ 1980 ∷ [])
+    ∷ losses 5 (7 ∷ 2 ∷ []) gets accepted (9 ∷ 10 ∷ []) writing (7 ∷ 777777777777778 ∷ 778 ∷ 856 ∷ 1711 ∷ 2 ∷ 222222222222223 ∷ 222 ∷ 244 ∷ 489 ∷ [])
     ∷ []
 
 abbrev last_of_five : List Exchange
 last_of_five =
-    losses 1 (7 ∷ 2 ∷ []) gets accepted (9 ∷ 7 ∷ []) writing (7 ∷ 777777777778 ∷ 544 ∷ 599 ∷ 1198 ∷ 2 ∷ 222222222223 ∷ 156 ∷ 171 ∷ 342 ∷ [])
-    ∷ losses 2 (1 ∷ 9 ∷ []) gets accepted (10 ∷ 9 ∷ []) writing (1 ∷ 100000000000 ∷ 90 ∷ 99 ∷ 198 ∷ 9 ∷ 900000000000 ∷ 810 ∷ 891 ∷ 1782 ∷ [])
-    ∷ losses 3 (3 ∷ 7 ∷ []) gets accepted (10 ∷ 9 ∷ []) writing (3 ∷ 300000000000 ∷ 270 ∷ 297 ∷ 594 ∷ 7 ∷ 700000000000 ∷ 630 ∷ 693 ∷ 1386 ∷ [])
-    ∷ losses 4 (4 ∷ 6 ∷ []) gets accepted (10 ∷ 9 ∷ []) writing (4 ∷ 400000000000 ∷ 360 ∷ 396 ∷ 792 ∷ 6 ∷ 600000000000 ∷ 540 ∷ 594 ∷ 1188 ∷ [])
+    losses 1 (7 ∷ 2 ∷ []) gets accepted (9 ∷ 7 ∷ []) writing (7 ∷ 777777777777778 ∷ 544 ∷ 599 ∷ 1198 ∷ 2 ∷ 222222222222223 ∷ 156 ∷ 171 ∷ 342 ∷ [])
+    ∷ losses 2 (1 ∷ 9 ∷ []) gets accepted (10 ∷ 9 ∷ []) writing (1 ∷ 100000000000000 ∷ 90 ∷ 99 ∷ 198 ∷ 9 ∷ 900000000000000 ∷ 810 ∷ 891 ∷ 1782 ∷ [])
+    ∷ losses 3 (3 ∷ 7 ∷ []) gets accepted (10 ∷ 9 ∷ []) writing (3 ∷ 300000000000000 ∷ 270 ∷ 297 ∷ 594 ∷ 7 ∷ 700000000000000 ∷ 630 ∷ 693 ∷ 1386 ∷ [])
+    ∷ losses 4 (4 ∷ 6 ∷ []) gets accepted (10 ∷ 9 ∷ []) writing (4 ∷ 400000000000000 ∷ 360 ∷ 396 ∷ 792 ∷ 6 ∷ 600000000000000 ∷ 540 ∷ 594 ∷ 1188 ∷ [])
     ∷ losses 5 (10 ∷ 10 ∷ [])
     gets accepted (20 ∷ 10 ∷ [])
-    writing (10 ∷ 500000000000 ∷ 500 ∷ 550 ∷ 1100 ∷ 10 ∷ 500000000000 ∷ 500 ∷ 550 ∷ 1100 ∷ [])
+    writing (10 ∷ 500000000000000 ∷ 500 ∷ 550 ∷ 1100 ∷ 10 ∷ 500000000000000 ∷ 500 ∷ 550 ∷ 1100 ∷ [])
     ∷ []
 
 abbrev five_days : (days : List Exchange) → List Exchange
@@ -312,6 +312,33 @@ five_days days =
     brings 2 1 (0 ∷ 0 ∷ []) gets accepted []
     ∷ days
     ++ (closing 6 gets accepted (5 ∷ 10 ∷ 100000000 ∷ []) writing (5 ∷ 50000000 ∷ 100000000 ∷ 7 ∷ 50000000 ∷ 100000000 ∷ []) ∷ [])
+
+-- ---- finer shares (document 02, Change 6)
+
+-- Members that lose 1, 2 and 3 dollars beside two that lose twice the limit of an amount: in parts of 10^12 each of the three would have one.
+abbrev from_limit_to_limit : (member : ℕ) → Line
+from_limit_to_limit member = acct member 0 H (pos 1000000000000) 0 0 (minus 1000000000000 ∷ [])
+
+abbrev few_parts : List Exchange
+few_parts =
+    brings 5 1 (replicate 5 0) gets accepted []
+    ∷ day (day_of 1 (from_limit_to_limit 1 ∷ from_limit_to_limit 2 ∷ houses 3 (pos 1 ∷ pos 2 ∷ pos 3 ∷ []))) 25
+    gets accepted (4000000000006 ∷ 2000000000000 ∷ [])
+    writing (2000000000000 ∷ 499999999999251 ∷ 99999999999850 ∷ 109999999999835 ∷ 219999999999670
+    ∷ 2000000000000 ∷ 499999999999251 ∷ 99999999999850 ∷ 109999999999835 ∷ 219999999999670
+    ∷ 1 ∷ 250 ∷ 50 ∷ 55 ∷ 110
+    ∷ 2 ∷ 500 ∷ 100 ∷ 110 ∷ 220
+    ∷ 3 ∷ 750 ∷ 150 ∷ 165 ∷ 330
+    ∷ [])
+    ∷ closing 15
+    gets accepted (1 ∷ 2000000000000 ∷ 2200149999998 ∷ [])
+    writing (1099999999999 ∷ 1099999999999 ∷ 2199999999998
+    ∷ 1099999999999 ∷ 1099999999999 ∷ 2199999999998
+    ∷ 1 ∷ 50000000 ∷ 100000000
+    ∷ 2 ∷ 50000000 ∷ 100000000
+    ∷ 2 ∷ 50000000 ∷ 100000000
+    ∷ [])
+    ∷ []
 
 -- ---- rounding, clients, the minimum
 
@@ -321,16 +348,16 @@ halves =
     (brings 4 1 (replicate 4 0) gets accepted []
     ∷ losses 1 (3 ∷ 3 ∷ 1 ∷ 1 ∷ [])
     gets accepted (8 ∷ 3 ∷ [])
-    writing (3 ∷ 375000000000 ∷ 113 ∷ 124 ∷ 248
-    ∷ 3 ∷ 375000000000 ∷ 113 ∷ 124 ∷ 248
-    ∷ 1 ∷ 125000000000 ∷ 38 ∷ 41 ∷ 83
-    ∷ 1 ∷ 125000000000 ∷ 38 ∷ 41 ∷ 83
+    writing (3 ∷ 375000000000000 ∷ 113 ∷ 124 ∷ 248
+    ∷ 3 ∷ 375000000000000 ∷ 113 ∷ 124 ∷ 248
+    ∷ 1 ∷ 125000000000000 ∷ 38 ∷ 41 ∷ 83
+    ∷ 1 ∷ 125000000000000 ∷ 38 ∷ 41 ∷ 83
     ∷ [])
     ∷ [])
     ∷ (brings 2 1 (0 ∷ 0 ∷ []) gets accepted []
     ∷ losses 1 (3 ∷ 1 ∷ [])
     gets accepted (4 ∷ 3 ∷ [])
-    writing (3 ∷ 750000000000 ∷ 225 ∷ 248 ∷ 495 ∷ 1 ∷ 250000000000 ∷ 75 ∷ 83 ∷ 165 ∷ [])
+    writing (3 ∷ 750000000000000 ∷ 225 ∷ 248 ∷ 495 ∷ 1 ∷ 250000000000000 ∷ 75 ∷ 83 ∷ 165 ∷ [])
     ∷ [])
     ∷ []
 
@@ -342,15 +369,15 @@ of_one number house cs = day (day_of number (losing 1 0 H house ∷ clients 1 cs
 abbrev client_days : List Exchange
 client_days =
     brings 1 1 (0 ∷ []) gets accepted []
-    ∷ of_one 1 (minus 1) ((R, pos 4) ∷ []) gets accepted (3 ∷ 3 ∷ []) writing (3 ∷ 1000000000000 ∷ 300 ∷ 330 ∷ 660 ∷ [])
-    ∷ of_one 2 (pos 0) ((R, pos 5) ∷ (R, minus 3) ∷ []) gets accepted (5 ∷ 5 ∷ []) writing (5 ∷ 1000000000000 ∷ 500 ∷ 550 ∷ 1100 ∷ [])
-    ∷ of_one 3 (pos 0) ((A, pos 10) ∷ (A, minus 4) ∷ []) gets accepted (15 ∷ 15 ∷ []) writing (15 ∷ 1000000000000 ∷ 1500 ∷ 1650 ∷ 3300 ∷ [])
+    ∷ of_one 1 (minus 1) ((R, pos 4) ∷ []) gets accepted (3 ∷ 3 ∷ []) writing (3 ∷ 1000000000000000 ∷ 300 ∷ 330 ∷ 660 ∷ [])
+    ∷ of_one 2 (pos 0) ((R, pos 5) ∷ (R, minus 3) ∷ []) gets accepted (5 ∷ 5 ∷ []) writing (5 ∷ 1000000000000000 ∷ 500 ∷ 550 ∷ 1100 ∷ [])
+    ∷ of_one 3 (pos 0) ((A, pos 10) ∷ (A, minus 4) ∷ []) gets accepted (15 ∷ 15 ∷ []) writing (15 ∷ 1000000000000000 ∷ 1500 ∷ 1650 ∷ 3300 ∷ [])
     ∷ of_one 4 (minus 7) ((R, pos 10) ∷ (R, pos 20) ∷ (R, pos 30) ∷ [])
     gets accepted (43 ∷ 43 ∷ [])
-    writing (43 ∷ 1000000000000 ∷ 4300 ∷ 4730 ∷ 9460 ∷ [])
+    writing (43 ∷ 1000000000000000 ∷ 4300 ∷ 4730 ∷ 9460 ∷ [])
     ∷ of_one 5 (pos 0) ((A, pos 10) ∷ (A, minus 4) ∷ (U, pos 20) ∷ (U, minus 6) ∷ [])
     gets accepted (45 ∷ 45 ∷ [])
-    writing (45 ∷ 1000000000000 ∷ 4500 ∷ 4950 ∷ 9900 ∷ [])
+    writing (45 ∷ 1000000000000000 ∷ 4500 ∷ 4950 ∷ 9900 ∷ [])
     ∷ closing 3 gets accepted (5 ∷ 45 ∷ 50000000 ∷ []) writing (50 ∷ 50000000 ∷ 100000000 ∷ [])
     ∷ []
 
@@ -360,13 +387,13 @@ at_minimum =
     (brings 1 1 (0 ∷ []) gets accepted []
     ∷ losses 1 (45454546 ∷ [])
     gets accepted (45454546 ∷ 45454546 ∷ [])
-    writing (45454546 ∷ 1000000000000 ∷ 4545454600 ∷ 5000000060 ∷ 10000000120 ∷ [])
+    writing (45454546 ∷ 1000000000000000 ∷ 4545454600 ∷ 5000000060 ∷ 10000000120 ∷ [])
     ∷ closing 3 gets accepted (1 ∷ 45454546 ∷ 50000001 ∷ []) writing (50000001 ∷ 50000001 ∷ 100000002 ∷ [])
     ∷ [])
     ∷ (brings 1 1 (0 ∷ []) gets accepted []
     ∷ losses 1 (45454544 ∷ [])
     gets accepted (45454544 ∷ 45454544 ∷ [])
-    writing (45454544 ∷ 1000000000000 ∷ 4545454400 ∷ 4999999840 ∷ 9999999680 ∷ [])
+    writing (45454544 ∷ 1000000000000000 ∷ 4545454400 ∷ 4999999840 ∷ 9999999680 ∷ [])
     ∷ closing 3 gets accepted (1 ∷ 45454544 ∷ 50000000 ∷ []) writing (49999999 ∷ 50000000 ∷ 100000000 ∷ [])
     ∷ [])
     ∷ []
@@ -585,7 +612,7 @@ while_open =
     -- three days
     ∷ on 5 mixed
     gets accepted (202 ∷ 136 ∷ [])
-    writing (130 ∷ 643564356436 ∷ 8752 ∷ 9628 ∷ 19255 ∷ 72 ∷ 356435643565 ∷ 4848 ∷ 5332 ∷ 10665 ∷ 0 ∷ 0 ∷ 0 ∷ 0 ∷ 0 ∷ [])
+    writing (130 ∷ 643564356435644 ∷ 8752 ∷ 9628 ∷ 19255 ∷ 72 ∷ 356435643564357 ∷ 4848 ∷ 5332 ∷ 10665 ∷ 0 ∷ 0 ∷ 0 ∷ 0 ∷ 0 ∷ [])
     -- refused days between accepted ones leave nothing behind, 3 before 5 and 6 where the number is not above the last
     ∷ on 20 [] gets refused 4
     ∷ on 20 (house 1 ∷ []) gets refused_at 5 1
@@ -598,11 +625,11 @@ while_open =
     ∷ on 5 (house 1 ∷ []) gets refused 3
     ∷ on 5 (with_amounts 1 (pos 1000000000001) 0 0 (pos 0) ∷ house 2 ∷ house 3 ∷ []) gets refused 3
     ∷ on 5 nothing_lost gets refused 3
-    ∷ on 6 hedged gets accepted (10 ∷ 136 ∷ []) writing (10 ∷ 1000000000000 ∷ 13600 ∷ 14960 ∷ 29920 ∷ replicate 10 0)
+    ∷ on 6 hedged gets accepted (10 ∷ 136 ∷ []) writing (10 ∷ 1000000000000000 ∷ 13600 ∷ 14960 ∷ 29920 ∷ replicate 10 0)
     ∷ on 31 extreme
     gets accepted (2000000000009 ∷ 2000000000000 ∷ [])
-    writing (2000000000000 ∷ 999999999996 ∷ 199999999999100 ∷ 219999999999010 ∷ 439999999998020
-    ∷ 0 ∷ 0 ∷ 0 ∷ 0 ∷ 0 ∷ 9 ∷ 5 ∷ 900 ∷ 990 ∷ 1980 ∷ [])
+    writing (2000000000000 ∷ 999999999995501 ∷ 199999999999100 ∷ 219999999999010 ∷ 439999999998020
+    ∷ 0 ∷ 0 ∷ 0 ∷ 0 ∷ 0 ∷ 9 ∷ 4500 ∷ 900 ∷ 990 ∷ 1980 ∷ [])
     -- row 3: not above the last accepted
     ∷ on 31 mixed gets refused 3
     ∷ on 30 mixed gets refused 3
@@ -615,8 +642,8 @@ while_open =
     ∷ closing 10 gets refused 4
     ∷ closing 15 gets refused 4
     ∷ closing 9
-    gets accepted (3 ∷ 2000000000000 ∷ 2200049999999 ∷ [])
-    writing (1938613861384 ∷ 1938613861384 ∷ 3877227722768 ∷ 261386138615 ∷ 261386138615 ∷ 522772277230 ∷ 4 ∷ 50000000 ∷ 100000000 ∷ [])
+    gets accepted (3 ∷ 2000000000000 ∷ 2200049999997 ∷ [])
+    writing (1938613861383 ∷ 1938613861383 ∷ 3877227722766 ∷ 261386138614 ∷ 261386138614 ∷ 522772277228 ∷ 4 ∷ 50000000 ∷ 100000000 ∷ [])
     ∷ []
 
 abbrev while_closed : List Exchange
@@ -641,17 +668,17 @@ while_closed =
     ∷ on 1
     (acct 1 0 H (pos 5) 0 0 (pos 0 ∷ pos 0 ∷ []) ∷ acct 2 0 H (pos 4) 0 0 (pos 0 ∷ pos 4 ∷ []) ∷ acct 3 0 H (pos 3) 0 0 (pos 0 ∷ pos 3 ∷ []) ∷ [])
     gets accepted (12 ∷ 7 ∷ [])
-    writing (5 ∷ 416666666667 ∷ 292 ∷ 321 ∷ 642 ∷ 4 ∷ 333333333334 ∷ 233 ∷ 257 ∷ 513 ∷ 3 ∷ 250000000000 ∷ 175 ∷ 193 ∷ 385 ∷ [])
+    writing (5 ∷ 416666666666667 ∷ 292 ∷ 321 ∷ 642 ∷ 4 ∷ 333333333333334 ∷ 233 ∷ 257 ∷ 513 ∷ 3 ∷ 250000000000000 ∷ 175 ∷ 193 ∷ 385 ∷ [])
     ∷ closing 9
     gets accepted (1 ∷ 7 ∷ 150000000 ∷ [])
     writing (4 ∷ 50000000 ∷ 100000000 ∷ 3 ∷ 50000000 ∷ 100000000 ∷ 2 ∷ 50000000 ∷ 100000000 ∷ [])
     ∷ brings 4 1 (0 ∷ 0 ∷ 0 ∷ 0 ∷ []) gets accepted []
     ∷ losses 1 (1 ∷ 2 ∷ 3 ∷ 4 ∷ [])
     gets accepted (10 ∷ 4 ∷ [])
-    writing (1 ∷ 100000000000 ∷ 40 ∷ 44 ∷ 88
-    ∷ 2 ∷ 200000000000 ∷ 80 ∷ 88 ∷ 176
-    ∷ 3 ∷ 300000000000 ∷ 120 ∷ 132 ∷ 264
-    ∷ 4 ∷ 400000000000 ∷ 160 ∷ 176 ∷ 352
+    writing (1 ∷ 100000000000000 ∷ 40 ∷ 44 ∷ 88
+    ∷ 2 ∷ 200000000000000 ∷ 80 ∷ 88 ∷ 176
+    ∷ 3 ∷ 300000000000000 ∷ 120 ∷ 132 ∷ 264
+    ∷ 4 ∷ 400000000000000 ∷ 160 ∷ 176 ∷ 352
     ∷ [])
     ∷ closing 12
     gets accepted (1 ∷ 4 ∷ 200000000 ∷ [])
@@ -661,7 +688,7 @@ while_closed =
     ∷ 2 ∷ 50000000 ∷ 100000000
     ∷ [])
     ∷ brings 1 1 (32 ∷ []) gets accepted []
-    ∷ day (day_of 1 (losing 1 0 H (pos 3) ∷ [])) 5 gets accepted (3 ∷ 3 ∷ []) writing (3 ∷ 1000000000000 ∷ 300 ∷ 330 ∷ 660 ∷ [])
+    ∷ day (day_of 1 (losing 1 0 H (pos 3) ∷ [])) 5 gets accepted (3 ∷ 3 ∷ []) writing (3 ∷ 1000000000000000 ∷ 300 ∷ 330 ∷ 660 ∷ [])
     ∷ closing 3 gets accepted (1 ∷ 3 ∷ 50000000 ∷ []) writing (4 ∷ 50000000 ∷ 100000000 ∷ [])
     ∷ []
 
@@ -669,7 +696,7 @@ while_closed =
 abbrev hedged_alone : List Exchange
 hedged_alone =
     brings 3 2 (4 ∷ 4 ∷ 0 ∷ []) gets accepted []
-    ∷ on 6 hedged gets accepted (10 ∷ 0 ∷ []) writing (10 ∷ 1000000000000 ∷ 0 ∷ 0 ∷ 0 ∷ replicate 10 0)
+    ∷ on 6 hedged gets accepted (10 ∷ 0 ∷ []) writing (10 ∷ 1000000000000000 ∷ 0 ∷ 0 ∷ 0 ∷ replicate 10 0)
     ∷ closing 9
     gets accepted (1 ∷ 0 ∷ 150000000 ∷ [])
     writing (0 ∷ 50000000 ∷ 100000000 ∷ 0 ∷ 50000000 ∷ 100000000 ∷ 0 ∷ 50000000 ∷ 100000000 ∷ [])
@@ -680,7 +707,7 @@ abbrev hedged_beside : List Exchange
 hedged_beside =
     brings 3 2 (4 ∷ 4 ∷ 0 ∷ []) gets accepted []
     ∷ on 1 nothing_lost gets accepted (0 ∷ 0 ∷ []) writing replicate 15 0
-    ∷ on 6 hedged gets accepted (10 ∷ 0 ∷ []) writing (10 ∷ 1000000000000 ∷ 0 ∷ 0 ∷ 0 ∷ replicate 10 0)
+    ∷ on 6 hedged gets accepted (10 ∷ 0 ∷ []) writing (10 ∷ 1000000000000000 ∷ 0 ∷ 0 ∷ 0 ∷ replicate 10 0)
     ∷ on 7 covered gets accepted (0 ∷ 0 ∷ []) writing replicate 15 0
     ∷ closing 9
     gets accepted (1 ∷ 0 ∷ 150000000 ∷ [])
@@ -689,9 +716,9 @@ hedged_beside =
     ∷ on 1 covered gets accepted (0 ∷ 0 ∷ []) writing replicate 15 0
     ∷ on 5 mixed
     gets accepted (202 ∷ 136 ∷ [])
-    writing (130 ∷ 643564356436 ∷ 8752 ∷ 9628 ∷ 19255 ∷ 72 ∷ 356435643565 ∷ 4848 ∷ 5332 ∷ 10665 ∷ 0 ∷ 0 ∷ 0 ∷ 0 ∷ 0 ∷ [])
+    writing (130 ∷ 643564356435644 ∷ 8752 ∷ 9628 ∷ 19255 ∷ 72 ∷ 356435643564357 ∷ 4848 ∷ 5332 ∷ 10665 ∷ 0 ∷ 0 ∷ 0 ∷ 0 ∷ 0 ∷ [])
     ∷ on 6 nothing_lost gets accepted (0 ∷ 136 ∷ []) writing replicate 15 0
-    ∷ on 7 hedged gets accepted (10 ∷ 136 ∷ []) writing (10 ∷ 1000000000000 ∷ 13600 ∷ 14960 ∷ 29920 ∷ replicate 10 0)
+    ∷ on 7 hedged gets accepted (10 ∷ 136 ∷ []) writing (10 ∷ 1000000000000000 ∷ 13600 ∷ 14960 ∷ 29920 ∷ replicate 10 0)
     ∷ on 31 covered gets accepted (0 ∷ 136 ∷ []) writing replicate 15 0
     ∷ closing 9
     gets accepted (2 ∷ 136 ∷ 150000000 ∷ [])
@@ -773,7 +800,7 @@ every_kind =
     ∷ []))
     5
     gets accepted (97 ∷ 97 ∷ [])
-    writing (97 ∷ 1000000000000 ∷ 9700 ∷ 10670 ∷ 21340 ∷ [])
+    writing (97 ∷ 1000000000000000 ∷ 9700 ∷ 10670 ∷ 21340 ∷ [])
     ∷ []
 
 -- Two groups whose members are not next to each other. On day 1 Max EUL is the sum of the second group; on day 2 it is member 3's, above
@@ -785,19 +812,19 @@ two_groups =
     (day_of 1 (losing 1 0 H (pos 40) ∷ losing 2 0 H (pos 20) ∷ losing 3 0 H (pos 30) ∷ losing 4 0 H (pos 60) ∷ []))
     20
     gets accepted (150 ∷ 80 ∷ [])
-    writing (40 ∷ 266666666667 ∷ 2133 ∷ 2347 ∷ 4693
-    ∷ 20 ∷ 133333333334 ∷ 1067 ∷ 1173 ∷ 2347
-    ∷ 30 ∷ 200000000000 ∷ 1600 ∷ 1760 ∷ 3520
-    ∷ 60 ∷ 400000000000 ∷ 3200 ∷ 3520 ∷ 7040
+    writing (40 ∷ 266666666666667 ∷ 2133 ∷ 2347 ∷ 4693
+    ∷ 20 ∷ 133333333333334 ∷ 1067 ∷ 1173 ∷ 2347
+    ∷ 30 ∷ 200000000000000 ∷ 1600 ∷ 1760 ∷ 3520
+    ∷ 60 ∷ 400000000000000 ∷ 3200 ∷ 3520 ∷ 7040
     ∷ [])
     ∷ day
     (day_of 2 (losing 1 0 H (minus 30) ∷ losing 2 0 H (pos 20) ∷ losing 3 0 H (pos 100) ∷ losing 4 0 H (pos 60) ∷ []))
     20
     gets accepted (180 ∷ 100 ∷ [])
     writing (0 ∷ 0 ∷ 0 ∷ 0 ∷ 0
-    ∷ 20 ∷ 111111111112 ∷ 1111 ∷ 1222 ∷ 2444
-    ∷ 100 ∷ 555555555556 ∷ 5556 ∷ 6111 ∷ 12222
-    ∷ 60 ∷ 333333333334 ∷ 3333 ∷ 3667 ∷ 7333
+    ∷ 20 ∷ 111111111111112 ∷ 1111 ∷ 1222 ∷ 2444
+    ∷ 100 ∷ 555555555555556 ∷ 5556 ∷ 6111 ∷ 12222
+    ∷ 60 ∷ 333333333333334 ∷ 3333 ∷ 3667 ∷ 7333
     ∷ [])
     ∷ closing 12
     gets accepted (2 ∷ 100 ∷ 200000000 ∷ [])
@@ -822,9 +849,9 @@ last_of_four =
     20
     gets accepted (101 ∷ 100 ∷ [])
     writing (0 ∷ 0 ∷ 0 ∷ 0 ∷ 0
-    ∷ 1 ∷ 9900990100 ∷ 99 ∷ 109 ∷ 218
+    ∷ 1 ∷ 9900990099010 ∷ 99 ∷ 109 ∷ 218
     ∷ 0 ∷ 0 ∷ 0 ∷ 0 ∷ 0
-    ∷ 100 ∷ 990099009901 ∷ 9901 ∷ 10891 ∷ 21782
+    ∷ 100 ∷ 990099009900991 ∷ 9901 ∷ 10891 ∷ 21782
     ∷ [])
     ∷ []
 
@@ -847,6 +874,7 @@ lists =
     ∷ (while_fresh ++ (while_open ++ while_closed))
     ∷ five_days first_of_five
     ∷ five_days last_of_five
+    ∷ few_parts
     ∷ client_days
     ∷ every_kind
     ∷ two_groups

@@ -39,8 +39,8 @@ counted o days = filter (λ d. counts (total o d.accounts)) days
 unfoldable pub sum_of_shares : Opening → List KeptDay → (m : ℕ) → ℕ
 sum_of_shares o days m = Σ (counted o days) (λ d. share (loss o.k d.accounts m) (total o d.accounts))
 
--- "A raw charge is 11·M·(sum of the member's shares) / (10·D·10^12), rounded up": from M, the sum S and D, and of member m. Where D is 0 it
--- is 0 (Change 2).
+-- "A raw charge is 11·M·(sum of the member's shares) / (10·D·10^12), rounded up", and with finer shares "the divisor of a raw charge follows":
+-- it is 10·D·10^15 (Change 6). From M, the sum S and D, and of member m. Where D is 0 it is 0 (Change 2).
 unfoldable pub charge : (M S D : ℕ) → ℕ
 charge M S D = cond (eqb D 0) 0 (ceil_div (11 * M * S) (10 * D * scale))
 
@@ -71,7 +71,7 @@ exact_charge o days m =
 unfoldable pub shortfall : (rawCharge : ℕ) → ℕ
 shortfall rawCharge = minimum - rawCharge
 
--- the allowance of demand 3: a raw charge is above the exact one by less than this, "1 dollar plus 1.1M/10^12"
+-- the allowance of demand 3: a raw charge is above the exact one by less than this, "1 dollar plus 1.1M/10^15" (Change 6)
 unfoldable pub allowance : (M : ℕ) → Fraction
 allowance M = whole 1 ⊕ (11 * M) over (10 * scale)
 

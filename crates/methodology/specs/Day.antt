@@ -1,5 +1,6 @@
 -- Document 01, "From members to the day": T, group sums, a day's own Max EUL, and a member's five daily numbers; 001, 6.1.1(5) to (7) and
--- 6.1.2. By document 02's Change 3 the Max EUL in these numbers is the one that the day reports: `reported_max_eul` in Contribution.antt.
+-- 6.1.2. By document 02's Change 3 the Max EUL in these numbers is the one that the day reports: `reported_max_eul` in Contribution.antt. By its
+-- Change 6 a share has fifteen places.
 use Rattle.std.specs.Prelude.{cond, ℕ, ◌-◌, ◌*◌, max, eqb, ℤ, get_or}
 use mathlib.Core.List.{List, [], ◌∷◌, flat_map}
 use Rattle.numbers.specs.Signed.{◌⁺}
@@ -37,12 +38,12 @@ own_max_eul o accts =
     (greatest (members o.n) (λ m. greatest (scenarios o.k) (λ j. member_under accts m j ⁺)))
     (greatest (members o.n) (λ m. greatest (scenarios o.k) (λ j. group_sum o accts m j ⁺)))
 
--- the share of a member that has the whole loss: 10^12
+-- the share of a member that has the whole loss: 10^15 (Change 6)
 abbrev pub scale : ℕ
-scale = 1000000000000
+scale = 1000000000000000
 
--- "A member's share is e × 10^12 / T, rounded up." It is taken where T is above 0, and so are the three figures after it (`five`, and `counted`
--- in Contribution.antt).
+-- "A share is now e × 10^15 / T rounded up" (Change 6). It is taken where T is above 0, and so are the three figures after it (`five`, and
+-- `counted` in Contribution.antt).
 unfoldable pub share : (e T : ℕ) → ℕ
 share e T = ceil_div (e * scale) T
 

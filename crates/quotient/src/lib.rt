@@ -7,7 +7,7 @@ ghost use Rattle.methodology.specs.Day.{scale};
 ghost use Rattle.quotient.specs.Ranges.{greatest_total, Loss, Charge};
 
 // The share of a member that has the whole loss.
-pub const SCALE: u64 = 1_000_000_000_000;
+pub const SCALE: u64 = 1_000_000_000_000_000;
 
 // The share of a loss e in the total t. `Loss`, and in `daily` a bound of Max EUL, are asked for and no struct has them: it would be taken apart
 // again in each body.
