@@ -2,7 +2,7 @@
 use mathlib.Core.Path.{◌≡◌, refl, sym, ap, subst, ◌∙◌}
 use mathlib.Core.Bool.{Bool, true, ◌||◌, false≢true}
 use mathlib.Core.List.{List, [], ◌∷◌, ◌++◌, map, map-map, map-id}
-use Prim.Native.Nat.{ℕ, suc, ◌-◌, ◌*◌, ◌≤◌}
+use Prim.Native.Nat.{ℕ, suc, ◌-◌, ◌*◌, ◌<◌, ◌≤◌}
 use native.Mathlib.Omega.{arith}
 use lib.ListN.{length, get_or, take}
 use Rattle.std.specs.List.{AllByRecursion}
@@ -11,6 +11,7 @@ use Rattle.numbers.proofs.Lists.{mem_range, part_length, keep_none, every_mem, e
 use Rattle.numbers.proofs.Sums.{Σ-map}
 use Rattle.numbers.proofs.Tests.{neither}
 use Rattle.methodology.specs.Account.{members}
+use Rattle.methodology.specs.Day.{share}
 use Rattle.methodology.specs.Text.{bytes, same, split, stretch, refused_line, rows, column_sum, totals, day_lines, fund_lines}
 use Rattle.methodology.specs.declared.Refusal.{Refusal}
 use Rattle.methodology.specs.RowNumbers.{row_number}
@@ -54,9 +55,10 @@ module _ (number n T Max : ℕ) (out : List ℕ) where
   column_read c = sym (Σ-map (of_member 5 out) (members n) (λ numbers. get_or numbers (suc c) 0))
 
   pub day_adds_up : length out ≡ 5 * n → get_or (totals n out) 0 0 ≡ T
-      → (T ≡ 0 → (m : ℕ) → 1 ≤ m → m ≤ n → stretch 5 m out ≡ 0 ∷ 0 ∷ 0 ∷ 0 ∷ 0 ∷ []) → AddsUp n as_read
+      → (T ≡ 0 → (m : ℕ) → 1 ≤ m → m ≤ n → stretch 5 m out ≡ 0 ∷ 0 ∷ 0 ∷ 0 ∷ 0 ∷ [])
+      → (0 < T → (m : ℕ) → 1 ≤ m → m ≤ n → get_or (stretch 5 m out) 1 0 ≡ share (get_or (stretch 5 m out) 0 0) T) → AddsUp n as_read
   unfolding totals
-  day_adds_up long first zeros =
+  day_adds_up long first zeros shares =
       record {
         of_members = map-map _ (of_member 5 out) (members n) ∙ map-id (members n);
         wide = every_map _ (of_member 5 out) (members n) (λ m i. let (low, high) = mem_range 1 n i in ap suc (part_length (5 * (m - 1)) 5 out (omega arith)));
@@ -64,6 +66,8 @@ module _ (number n T Max : ℕ) (out : List ℕ) where
         first_is = first;
         nothing_lost =
             λ none. every_map _ (of_member 5 out) (members n) (λ m i. let (low, high) = mem_range 1 n i in zeros none m low (omega arith));
+        shares_are =
+            λ some. every_map _ (of_member 5 out) (members n) (λ m i. let (low, high) = mem_range 1 n i in shares some m low (omega arith));
       }
 
   pub day_told : AllByRecursion Told (lines_of_day as_read)

@@ -22,7 +22,7 @@ use Rattle.methodology.proofs.Enough.{rises}
 use Rattle.methodology.proofs.Reports.{day_call, closing_call, sized_lines, Rest, a_day_lem, a_fund, a_refusal, Report, a_period, no_period, days_told, reports}
 use Rattle.exposure.proofs.MaxTotal.{own_none}
 use Rattle.fund.proofs.RawCharge.{highest_none}
-use Rattle.fund.proofs.Dailies.{dailies_long, five_none}
+use Rattle.fund.proofs.Dailies.{dailies_long, five_some, five_none}
 use Rattle.demand3.specs.Demand3.{Fits64}
 use Rattle.demand3.proofs.RegisterFits.{Kept, kept_first, CallFits, call_fits, writes_few}
 use Rattle.answers.proofs.Columns.{totals_fit}
@@ -155,6 +155,7 @@ module _ {g : Register} (k : Kept g) (d : DayInput) (passes : refusal g (day_cal
   unfolding written
   day_sums = day_adds_up d.terms.number n T Max out (dailies_long after.held Max _) (first_sum_is_t after.held Max _)
       (λ none m low high. record_is after.held Max _ m low high ∙ five_none _ Max T none)
+      (λ some m low high. rw (record_is after.held Max _ m low high, five_some _ Max T (λ none. omega (arith, none))) refl)
 
   no_refusal : AllByRecursion Told (lines_of_day (as_read d.terms.number n T Max out))
   no_refusal = day_told d.terms.number n T Max out

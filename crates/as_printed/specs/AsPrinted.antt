@@ -1,6 +1,6 @@
 -- Document 02, Change 1, of the report as a person reads it off its bytes: "Each sum equals that of the day's records as printed, and the
 -- first equals T." `AsPrinted` is the claim. It says too that the days' Max EULs never fall (Change 3), what a day without losses shows
--- (Change 4), and that a report with a fund leaves no day of the text out.
+-- (Change 4), that a report with a fund leaves no day of the text out, and that each share is that of its loss and T (Change 6).
 use Rattle.std.specs.Prelude.{◌≡◌, Bool, true, false, cond, not, ◌&&◌, ◌||◌, ℕ, ◌+◌, ◌*◌, ◌^◌, ◌≤◌, ◌<◌, eqb, ltb, length, get_or, take, drop}
 use mathlib.Core.List.{List, [], ◌∷◌, ◌++◌, map, flat_map}
 use Rattle.std.specs.Prelude.{Some}
@@ -72,6 +72,8 @@ pub record AddsUp (n : ℕ) (d : DayRead) : Type 0 where
   pub first_is : get_or d.sums 0 0 ≡ d.T
   -- where T is 0, "every member's e, share and cents are 0" (Change 4)
   pub nothing_lost : d.T ≡ 0 → AllByRecursion (λ numbers. drop 1 numbers ≡ 0 ∷ 0 ∷ 0 ∷ 0 ∷ 0 ∷ []) d.records
+  -- and where it is above 0 each share is "e × 10^15 / T rounded up", of that record's e and of T (Change 6)
+  pub shares_are : 0 < d.T → AllByRecursion (λ numbers. get_or numbers 2 0 ≡ share (get_or numbers 1 0) d.T) d.records
 
 -- ---- a report
 

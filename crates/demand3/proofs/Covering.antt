@@ -36,7 +36,7 @@ module _ (o : Opening) (days : List KeptDay) where
         rows_at 3 (λ m. three (raw o days m)) (members o.n) (λ x i. three_wide (raw o days x)) (m - 1) j 0 0 (omega (arith, length-range_with_len 1 o.n)) h
         ∙ ap (λ (x : ℕ). get_or (three (raw o days x)) j 0) (get_or-range_with_len 1 o.n (m - 1) 0 (omega arith) ∙ omega arith)
 
-    raw_is : raw_in (contributions o days) m ≡ raw o days m
+    pub raw_is : raw_in (contributions o days) m ≡ raw o days m
     unfolding three
     raw_is = ap (λ (x : ℕ). get_or (contributions o days) x 0) (omega arith) ∙ number_at 0 (omega arith)
 

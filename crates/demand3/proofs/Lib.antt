@@ -1,4 +1,4 @@
-mod Covering
+pub mod Covering
 pub mod EveryList
 mod Fitting
 pub mod RegisterFits

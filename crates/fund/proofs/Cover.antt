@@ -69,7 +69,7 @@ module _ (o : Opening) (days : List KeptDay) where
   raws_none none = Σ-zero (members o.n) (raw o days) (λ m i. raw_none o days none m)
 
   -- a raw charge, and all of them together, where some do
-  raw_some : 0 < D → (m : ℕ) → raw o days m ≡ ceil_div (11 * highest o days * sum_of_shares o days m) (10 * D * scale)
+  pub raw_some : 0 < D → (m : ℕ) → raw o days m ≡ ceil_div (11 * highest o days * sum_of_shares o days m) (10 * D * scale)
   unfolding raw
   raw_some kept m = charge_some _ _ _ kept
 

@@ -3,7 +3,7 @@
 use mathlib.Core.Path.{◌≡◌}
 use Prim.Native.Nat.{ℕ, ◌+◌, ◌-◌, ◌*◌, ◌<◌, ◌≤◌}
 use native.Mathlib.Omega.{arith}
-use native.Mathlib.Nat.{le_trans, le_antisymm, mul-pos, mul-le-mul_right, lt_of_mul-lt-mul_right, div-mul-le_self, lt-div-mul-add}
+use native.Mathlib.Nat.{le_trans, le_antisymm, mul-pos, mul-le-mul_right, le_of_mul-le-mul_right, lt_of_mul-lt-mul_right, div-mul-le_self, lt-div-mul-add}
 use Rattle.numbers.specs.Rounding.{ceil_div, round_div}
 
 -- a number whose multiple of q is less than q above another's is at most the other
@@ -48,6 +48,15 @@ module _ (p q : ℕ) (hq : 0 < q) where
 -- rounded up, a fraction grows with p
 pub ceil_mono : (p p' q : ℕ) → 0 < q → p ≤ p' → ceil_div p q ≤ ceil_div p' q
 ceil_mono p p' q hq h = ceil_le p q hq (ceil_div p' q) (le_trans h (ceil_above p' q hq))
+
+-- a common factor changes nothing
+pub ceil_factor : (p q k : ℕ) → 0 < q → 0 < k → ceil_div (p * k) (q * k) ≡ ceil_div p q
+ceil_factor p q k hq hk =
+    let n : ℕ = ceil_div (p * k) (q * k) in
+    let hqk : 0 < q * k = mul-pos hq hk in
+    ceil_unique p q hq n
+    (le_of_mul-le-mul_right {k = k} (omega (arith, ceil_above (p * k) (q * k) hqk)) hk)
+    (lt_of_mul-lt-mul_right k (omega (arith, ceil_below (p * k) (q * k) hqk)))
 
 -- rounding up in two steps is rounding up once
 pub ceil_ceil : (p a b : ℕ) → 0 < a → 0 < b → ceil_div (ceil_div p a) b ≡ ceil_div p (a * b)

@@ -100,7 +100,7 @@ call_fits cs call =
     subst (λ (g : Register). refusal g call ≡ clear → AcceptedFits (step g call) call) (fold-map step (λ c. call_of c.asked) start cs)
     (as_printed.accepted_fits (map (λ c. call_of c.asked) cs) call)
 
-of_day : (cs : List Made) (c : Made) (d : DayInput) (out : List ℕ) (T Max : ℕ) → Holds start (cs ++ (c ∷ []))
+pub of_day : (cs : List Made) (c : Made) (d : DayInput) (out : List ℕ) (T Max : ℕ) → Holds start (cs ++ (c ∷ []))
     → c.asked ≡ Asked.day d out → c.answer ≡ accepted (T ∷ Max ∷ [])
     → DayReports (register_after start cs) (noted cs) d T Max c.after
 unfolding answer buffer accept returned written dailies greatest
