@@ -1,5 +1,5 @@
 #!/usr/bin/env python3
-"""Holds the recalculation to document 01's figures 1 to 10. Exits with 1 where one is wrong."""
+"""Holds the recalculation to document 01's figures 1 to 10, with the shares of Change 6. Exits with 1 where one is wrong."""
 import sys
 
 from recalculation import A, H, R, U, Account, Period, day_figures, five, member_eul
@@ -33,8 +33,8 @@ TWO = [300] + ONE[1:]
 M = 10**6
 CASES = [
     (1, sum(ONE), 1800),
-    (1, column(1, ONE, 500), [250000000000, 111111111112, 138888888889, 277777777778,
-                              111111111112, 111111111112]),
+    (1, column(1, ONE, 500), [250000000000000, 111111111111112, 138888888888889, 277777777777778,
+                              111111111111112, 111111111111112]),
     (1, column(2, ONE, 500), [12500, 5556, 6944, 13889, 5556, 5556]),
     (1, column(3, ONE, 500), [13750, 6111, 7639, 15278, 6111, 6111]),
     (2, (sum(TWO), column(2, TWO, 500)[0], column(3, TWO, 500)[0]), (1650, 9091, 10000)),

@@ -117,6 +117,16 @@ Register.accept | record { status = Closed; held | record { status = cond (eqb (
 Text.at_end | cond (same rest []) | cond (same rest [] || eqb (length g.days) 0)
 Contribution.allowance | whole 1 ⊕ (11 * M) over (10 * scale) | whole 1
 Contribution.allowance | whole 1 ⊕ (11 * M) over (10 * scale) | (11 * M) over (10 * scale)
+Contribution.allowance | (10 * scale) | (10 * 1000000000000)
+Contribution.charge | (10 * D * scale) | (10 * D * 1000000000000)
+Contribution.charge | ceil_div (11 * M * S) (10 * D * scale) | ceil_div (11 * M * ceil_div S 1000) (10 * D * 1000000000000)
+Contribution.charge | ceil_div (11 * M * S) (10 * D * scale) | ceil_div (11 * ceil_div (M * S) 1000) (10 * D * 1000000000000)
+Contribution.raw | (sum_of_shares o days m) | (1000 * ceil_div (sum_of_shares o days m) 1000)
+Contribution.sum_of_shares | (λ d. share (loss o.k d.accounts m) (total o d.accounts)) | (λ d. 1000 * ceil_div (share (loss o.k d.accounts m) (total o d.accounts)) 1000)
+Day.share | ceil_div (e * scale) T | ceil_div (e * 1000000000000) T
+Day.share | ceil_div (e * scale) T | 1000 * ceil_div (e * 1000000000000) T
+Day.share | ceil_div (e * scale) T | e * scale / T + 1
+Day.share | ceil_div (e * scale) T | cond (ltb (e * scale) T) 0 (ceil_div (e * scale) T)
 Contribution.total_funded | funded (raw o days m) | raw o days m
 Contribution.unfunded | 2 * funded rawCharge | funded (2 * rawCharge)
 Day.total | Σ (members o.n) | Σ (members (o.n - 1))

@@ -55,7 +55,7 @@ some_digits zero n = omega arith
 some_digits (suc k) n = omega (arith, length-append (front k n) ((48 + n % 10) ∷ []))
 
 -- a number below 10^(j + 1) has at most j + 1
-few_digits : (k j n : ℕ) → n < 10 ^ suc j → length (digits k n) ≤ suc j
+pub few_digits : (k j n : ℕ) → n < 10 ^ suc j → length (digits k n) ≤ suc j
 unfolding digits
 few_digits zero j n h = omega arith
 few_digits (suc k) zero n h = rw (lt-ltb n 10 (omega arith)) (omega arith)

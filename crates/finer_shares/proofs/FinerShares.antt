@@ -19,9 +19,10 @@ use Rattle.methodology.specs.Member.{loss}
 use Rattle.methodology.specs.Day.{total, scale, share, five}
 use Rattle.methodology.specs.Contribution.{KeptDay, highest, counted, sum_of_shares, raw}
 use Rattle.methodology.specs.Register.{Call, Register, start, refusal, accept, step, returned, written, accepted, answer, buffer}
-use Rattle.methodology.specs.Text.{stretch}
+use Rattle.methodology.specs.Text.{decimal, stretch}
 use Rattle.methodology.proofs.Passed.{step_clear}
 use Rattle.methodology.proofs.Counted.{counted_some}
+use Rattle.quotient.proofs.QuotientBounds.{share_le}
 use Rattle.fund.proofs.Dailies.{five_some, five_wide}
 use Rattle.fund.proofs.RawCharge.{raw_none}
 use Rattle.fund.proofs.Cover.{raw_some}
@@ -30,6 +31,7 @@ use Rattle.demand3.specs.Demand3.{raw_in, Holds, register_after}
 use Rattle.demand3.proofs.Covering.{raw_is}
 use Rattle.demand3.proofs.EveryList.{last_agrees}
 use Rattle.answers.proofs.RefusalRows.{is_clear}
+use Rattle.as_printed.proofs.ReadBack.{few_digits}
 use Rattle.as_printed.proofs.DaySums.{stretch_is}
 use Rattle.so_far.proofs.HighestSoFar.{of_day}
 use Rattle.finer_shares.specs.FinerShares.{RoundedUp, loss_in, share_in, coarser_scale, coarser_share, coarser_raw, coarser_allowance, ChargedCloser, FinerShares}
@@ -48,6 +50,10 @@ module _ (e T : ℕ) (positive : 0 < T) where
   no_other : (s : ℕ) → RoundedUp e T s → s ≡ share e T
   unfolding share
   no_other s r = ceil_unique (e * scale) T positive s r.at_least (omega (arith, r.below))
+
+  sixteen_digits : e ≤ T → length (decimal (share e T)) ≤ 16
+  unfolding share
+  sixteen_digits part = few_digits 19 15 _ (omega (arith, share_le scale e T positive part))
 
   as_before : ceil_div (share e T) 1000 ≡ coarser_share e T
   unfolding share
@@ -165,6 +171,7 @@ finer_shares =
     record {
       rounded_up = rounded_up;
       no_other = λ e T s positive. no_other e T positive s;
+      sixteen_digits = sixteen_digits;
       never_further = never_further;
       as_before = as_before;
       charged_closer = charged_closer;

@@ -15,7 +15,7 @@ use Rattle.methodology.specs.Day.{total, scale, share}
 use Rattle.methodology.specs.Contribution.{KeptDay, highest, counted, raw}
 use Rattle.methodology.specs.Refusals.{clear}
 use Rattle.methodology.specs.Register.{Call, start, refusal, accepted}
-use Rattle.methodology.specs.Text.{stretch}
+use Rattle.methodology.specs.Text.{decimal, stretch}
 use Rattle.demand3.specs.Made.{Asked, Made}
 use Rattle.demand3.specs.Demand3.{raw_in, Holds, register_after}
 
@@ -64,6 +64,8 @@ pub record FinerShares : Type 0 where
   -- Of every loss and every T above 0: the share is the exact fraction rounded up at the fifteenth place, and no other number is.
   pub rounded_up : (e T : ℕ) → 0 < T → RoundedUp e T (share e T)
   pub no_other : (e T s : ℕ) → 0 < T → RoundedUp e T s → s ≡ share e T
+  -- Of a loss in a T it is printed with at most 16 digits, those of the whole.
+  pub sixteen_digits : (e T : ℕ) → 0 < T → e ≤ T → length (decimal (share e T)) ≤ 16
   -- It is never further from the exact one than the coarser share, which it gives where it is rounded up to twelve places.
   pub never_further : (e T : ℕ) → 0 < T → share e T over scale ≼ coarser_share e T over coarser_scale
   pub as_before : (e T : ℕ) → 0 < T → ceil_div (share e T) 1000 ≡ coarser_share e T
