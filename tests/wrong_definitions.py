@@ -118,10 +118,19 @@ Text.at_end | cond (same rest []) | cond (same rest [] || eqb (length g.days) 0)
 Contribution.allowance | whole 1 ⊕ (11 * M) over (10 * scale) | whole 1
 Contribution.allowance | whole 1 ⊕ (11 * M) over (10 * scale) | (11 * M) over (10 * scale)
 Contribution.allowance | (10 * scale) | (10 * 1000000000000)
+Contribution.allowance | (11 * M) over (10 * scale) | (11 * (M / 10)) over scale
+Contribution.allowance | (11 * M) over (10 * scale) | (11 * M / 10) over scale
+Contribution.allowance | (11 * M) over (10 * scale) | ceil_div (11 * M) 10 over scale
 Contribution.charge | (10 * D * scale) | (10 * D * 1000000000000)
+Contribution.charge | ceil_div (11 * M * S) (10 * D * scale) | ceil_div (11 * M * round_div S D) (10 * scale)
+Contribution.charge | ceil_div (11 * M * S) (10 * D * scale) | ceil_div (11 * M * (S / D)) (10 * scale)
+Contribution.charge | ceil_div (11 * M * S) (10 * D * scale) | ceil_div (11 * M * S / (10 * D)) scale
+Contribution.charge | ceil_div (11 * M * S) (10 * D * scale) | ceil_div (11 * M * S / 10) (D * scale)
+Contribution.charge | ceil_div (11 * M * S) (10 * D * scale) | ceil_div (11 * (M * S / D)) (10 * scale)
 Contribution.charge | ceil_div (11 * M * S) (10 * D * scale) | ceil_div (11 * M * ceil_div S 1000) (10 * D * 1000000000000)
 Contribution.charge | ceil_div (11 * M * S) (10 * D * scale) | ceil_div (11 * ceil_div (M * S) 1000) (10 * D * 1000000000000)
 Contribution.raw | (sum_of_shares o days m) | (1000 * ceil_div (sum_of_shares o days m) 1000)
+Contribution.sum_of_shares | Σ (counted o days) (λ d. share (loss o.k d.accounts m) (total o d.accounts)) | let x = Σᶠ (counted o days) (λ d. loss o.k d.accounts m over total o d.accounts) in ceil_div (x.num * scale) x.den
 Contribution.sum_of_shares | (λ d. share (loss o.k d.accounts m) (total o d.accounts)) | (λ d. 1000 * ceil_div (share (loss o.k d.accounts m) (total o d.accounts)) 1000)
 Day.share | ceil_div (e * scale) T | ceil_div (e * 1000000000000) T
 Day.share | ceil_div (e * scale) T | 1000 * ceil_div (e * 1000000000000) T

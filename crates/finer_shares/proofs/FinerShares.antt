@@ -1,6 +1,6 @@
 -- Finer shares beside exact and coarser ones: a share is near the exact fraction by the laws of rounding, and rounding it up once more gives the
 -- coarser one. So the sums of both are near each other, and the charges. With it the claim is whole: `finer_shares`.
-use mathlib.Core.Path.{◌≡◌, sym, ap, subst, ◌∙◌}
+use mathlib.Core.Path.{◌≡◌, refl, sym, ap, subst, subst₂, ◌∙◌}
 use mathlib.Core.List.{List, [], ◌∷◌, ◌++◌}
 use Prim.Native.Nat.{ℕ, ◌+◌, ◌*◌, ◌≤◌, ◌<◌}
 use native.Mathlib.Nat.{mul-le-mul_left, mul-lt-mul_of_pos_right, lt_of_mul-lt-mul_right}
@@ -17,7 +17,7 @@ use Rattle.methodology.specs.declared.Opening.{Opening}
 use Rattle.methodology.specs.Account.{DayInput, accounts}
 use Rattle.methodology.specs.Member.{loss}
 use Rattle.methodology.specs.Day.{total, scale, share, five}
-use Rattle.methodology.specs.Contribution.{KeptDay, highest, counted, sum_of_shares, raw}
+use Rattle.methodology.specs.Contribution.{KeptDay, highest, counted, sum_of_shares, raw, exact_charge}
 use Rattle.methodology.specs.Register.{Call, Register, start, refusal, accept, step, returned, written, accepted, answer, buffer}
 use Rattle.methodology.specs.Text.{decimal, stretch}
 use Rattle.methodology.proofs.Passed.{step_clear}
@@ -25,7 +25,7 @@ use Rattle.methodology.proofs.Counted.{counted_some}
 use Rattle.quotient.proofs.QuotientBounds.{share_le}
 use Rattle.fund.proofs.Dailies.{five_some, five_wide}
 use Rattle.fund.proofs.RawCharge.{raw_none}
-use Rattle.fund.proofs.Cover.{raw_some}
+use Rattle.fund.proofs.Cover.{raw_some, raw_least, raw_close}
 use Rattle.demand3.specs.Made.{Asked, Made}
 use Rattle.demand3.specs.Demand3.{raw_in, Holds, register_after}
 use Rattle.demand3.proofs.Covering.{raw_is}
@@ -34,7 +34,7 @@ use Rattle.answers.proofs.RefusalRows.{is_clear}
 use Rattle.as_printed.proofs.ReadBack.{few_digits}
 use Rattle.as_printed.proofs.DaySums.{stretch_is}
 use Rattle.so_far.proofs.HighestSoFar.{of_day}
-use Rattle.finer_shares.specs.FinerShares.{RoundedUp, loss_in, share_in, coarser_scale, coarser_share, coarser_raw, coarser_allowance, ChargedCloser, FinerShares}
+use Rattle.finer_shares.specs.FinerShares.{RoundedUp, DayWrites, coarser_scale, coarser_share, coarser_raw, coarser_allowance, Between, FinerShares}
 
 -- ---- one share
 
@@ -76,14 +76,14 @@ module _ (e T : ℕ) (positive : 0 < T) where
 
 -- a charge by the sum S of finer shares over D days, and by the sum S' of coarser ones
 module _ (M S S' D : ℕ) (some : 0 < D) where
-  charge_no_more : S ≤ 1000 * S' → ceil_div (11 * M * S) (10 * D * scale) ≤ ceil_div (11 * M * S') (10 * D * coarser_scale)
-  charge_no_more h =
+  charge_at_most : S ≤ 1000 * S' → ceil_div (11 * M * S) (10 * D * scale) ≤ ceil_div (11 * M * S') (10 * D * coarser_scale)
+  charge_at_most h =
       ceil_le (11 * M * S) (10 * D * scale) (omega arith) _
       (omega (arith, mul-le-mul_left (11 * M) h, ceil_above (11 * M * S') (10 * D * coarser_scale) (omega arith)))
 
-  charge_close : 1000 * S' ≤ S + 1000 * D
+  charge_lower_by : 1000 * S' ≤ S + 1000 * D
       → whole (ceil_div (11 * M * S') (10 * D * coarser_scale)) ≺ whole (ceil_div (11 * M * S) (10 * D * scale)) ⊕ coarser_allowance M
-  charge_close h =
+  charge_lower_by h =
       lt_of_mul-lt-mul_right D
       (omega (
         arith,
@@ -121,35 +121,49 @@ module _ (o : Opening) (days : List KeptDay) (m : ℕ) where
         Σ-const (counted o days) 1000,
       )
 
-  charged_closer : ChargedCloser (highest o days) (coarser_raw o days m) (raw o days m)
-  charged_closer =
-      none_or_some (counted o days)
-      (λ none. rw (none, raw_none o days none m) (record { no_more = omega arith; close = omega arith }))
-      (λ some.
-      rw (raw_some o days some m, ne_eqb D 0 (λ e. omega (arith, e)))
-      (record {
-        no_more = charge_no_more _ _ _ D some sum_no_more;
-        close = charge_close _ _ _ D some sum_close;
-      }))
+  -- where no day counts both charges are 0
+  none_counts : counted o days ≡ [] → (raw o days m ≡ 0) × (coarser_raw o days m ≡ 0)
+  none_counts none = (raw_none o days none m, rw none refl)
+
+  some_count : 0 < D → coarser_raw o days m ≡ ceil_div (11 * highest o days * Σ (counted o days) coarser) (10 * D * coarser_scale)
+  some_count some = rw (ne_eqb D 0 (λ e. omega (arith, e))) refl
+
+  at_most : raw o days m ≤ coarser_raw o days m
+  at_most =
+      none_or_some (counted o days) (λ none. omega (arith, (none_counts none).0))
+      (λ some. rw (raw_some o days some m, some_count some) (charge_at_most _ _ _ D some sum_no_more))
+
+  lower_by : whole (coarser_raw o days m) ≺ whole (raw o days m) ⊕ coarser_allowance (highest o days)
+  lower_by =
+      none_or_some (counted o days) (λ none. omega (arith, (none_counts none).1))
+      (λ some. rw (raw_some o days some m, some_count some) (charge_lower_by _ _ _ D some sum_close))
+
+  charge_between : Between (exact_charge o days m) (highest o days) (raw o days m) (coarser_raw o days m)
+  charge_between = record { at_least = raw_least o days m; close = raw_close o days m; at_most = at_most; lower_by = lower_by }
 
 -- ---- the last call of a list
 
 day_writes : (cs : List Made) (c : Made) (d : DayInput) (out : List ℕ) (T Max : ℕ) → Holds start (cs ++ (c ∷ []))
     → c.asked ≡ Asked.day d out → c.answer ≡ accepted (T ∷ Max ∷ []) → 0 < T
-    → (m : ℕ) → 1 ≤ m → m ≤ (register_after start cs).held.n → RoundedUp (loss_in c.after m) T (share_in c.after m)
+    → let g = register_after start cs in
+    (m : ℕ) → 1 ≤ m → m ≤ g.held.n → DayWrites g.held (accounts g.held.k d) T c.after m
 day_writes cs c d out T Max holds is said positive m low high =
     let o = (register_after start cs).held in
     let e : ℕ → ℕ = loss o.k (accounts o.k d) in
-    let wrote = (of_day cs c d out T Max holds is said).writes in
+    let reports = of_day cs c d out T Max holds is said in
     let numbers =
-    ap (stretch 5 m) wrote ∙ stretch_is 5 (λ m. five (e m) Max T) (λ m. five_wide (e m) Max T) o.n m low high
+    ap (stretch 5 m) reports.writes ∙ stretch_is 5 (λ m. five (e m) Max T) (λ m. five_wide (e m) Max T) o.n m low high
     ∙ five_some (e m) Max T (λ none. omega (arith, none)) in
-    subst (λ (l : List ℕ). RoundedUp (get_or l 0 0) T (get_or l 1 0)) (sym numbers) (rounded_up (e m) T positive)
+    record {
+      total_is = reports.t_is;
+      loss_is = ap (λ (l : List ℕ). get_or l 0 0) numbers;
+      share_is = subst (λ (l : List ℕ). RoundedUp (get_or l 0 0) T (get_or l 1 0)) (sym numbers) (rounded_up (e m) T positive);
+    }
 
 closing_writes : (cs : List Made) (c : Made) (out : List ℕ) (D M funds : ℕ) → Holds start (cs ++ (c ∷ []))
     → c.asked ≡ Asked.closing out → c.answer ≡ accepted (D ∷ M ∷ funds ∷ [])
     → let g = register_after start cs in
-    (m : ℕ) → 1 ≤ m → m ≤ g.held.n → ChargedCloser M (coarser_raw g.held g.days m) (raw_in c.after m)
+    (m : ℕ) → 1 ≤ m → m ≤ g.held.n → Between (exact_charge g.held g.days m) M (raw_in c.after m) (coarser_raw g.held g.days m)
 unfolding answer buffer accept returned written
 closing_writes cs c out D M funds holds is said m low high =
     let g = register_after start cs in
@@ -162,7 +176,8 @@ closing_writes cs c out D M funds holds is said m low high =
     let wrote : c.after ≡ written (step g call) call = agreed.buffer ∙ rw (is, passes) in
     let charged : raw_in c.after m ≡ raw g.held g.days m =
     ap (λ (l : List ℕ). raw_in l m) (wrote ∙ ap (λ (x : Register). written x call) left) ∙ raw_is g.held g.days m low high in
-    rw charged (subst (λ (M : ℕ). ChargedCloser M (coarser_raw g.held g.days m) (raw g.held g.days m)) m_is (charged_closer g.held g.days m))
+    let between : ℕ → ℕ → Type 0 = λ M finer. Between (exact_charge g.held g.days m) M finer (coarser_raw g.held g.days m) in
+    subst₂ between m_is (sym charged) (charge_between g.held g.days m)
 
 -- ---- the claim
 
@@ -172,9 +187,9 @@ finer_shares =
       rounded_up = rounded_up;
       no_other = λ e T s positive. no_other e T positive s;
       sixteen_digits = sixteen_digits;
-      never_further = never_further;
       as_before = as_before;
-      charged_closer = charged_closer;
+      never_further = never_further;
+      charge_between = charge_between;
       day_writes = day_writes;
       closing_writes = closing_writes;
     }

@@ -18,7 +18,7 @@ use Rattle.methodology.specs.Contribution.{KeptDay, counted, sum_of_shares, raw,
 use Rattle.methodology.specs.Register.{Register, start, opening, day, closing, step, returned, written, buffer}
 use Rattle.methodology.proofs.Samples.{computed, H, R, A, U, Line, acct, minus, losing, houses, clients, day_of, opening_of}
 
--- a case: the figures that the definitions give, and those that document 01 has
+-- a case: the figures that the definitions give, and those that document 01 has, shares as document 02's Change 6 has them
 pub record Case : Type 0 where
   pub got : List ℤ
   pub due : List ℤ
@@ -231,9 +231,13 @@ exact_cases =
     -- of the greatest T has two parts.
     ∷ (share 1 1000000000000000 ∷ share 1 1000000000000001 ∷ share 1 999999999999999 ∷ share 1 767000000000000 ∷ []) is (1 ∷ 1 ∷ 2 ∷ 2 ∷ [])
     ∷ (share 0 7 ∷ share 2 3 ∷ share 7 7 ∷ []) is (0 ∷ 666666666666667 ∷ 1000000000000000 ∷ [])
-    -- and a charge divides the sum of such shares: of one part; of the most; and from one part to the next it passes a dollar
+    -- A charge divides the sum of such shares, once: of one part and of the most; where their mean is no whole number; and from one part to the
+    -- next it passes a dollar.
     ∷ (charge 767000000000000 1 1 ∷ charge 767000000000000 31000000000000000 31 ∷ []) is (1 ∷ 843700000000000 ∷ [])
-    ∷ (charge 1 909090909090909 1 ∷ charge 1 909090909090910 1 ∷ []) is (1 ∷ 2 ∷ [])
+    ∷ (charge 767000000000000 7 6 ∷ charge 767000000000000 4 3 ∷ []) is (1 ∷ 2 ∷ [])
+    ∷ (charge 1 909090909090909 1 ∷ charge 1 909090909090910 1 ∷ charge 1 1818181818181818 2 ∷ charge 1 1818181818181819 2 ∷ []) is (1 ∷ 2 ∷ 1 ∷ 2 ∷ [])
+    -- a sum of thirds, each rounded up on its day
+    ∷ sums_and_charges (kept ((pos 1 ∷ pos 2 ∷ []) ∷ (pos 1 ∷ pos 2 ∷ []) ∷ [])) is (666666666666668 ∷ 1333333333333334 ∷ 1 ∷ 2 ∷ [])
     -- A day without losses: a member's five numbers are 0, whatever loss and Max EUL would be, and its own Max EUL is 0. A dollar is a loss.
     ∷ (five 0 0 0 ++ (five 0 400000000 0 ++ five 5 9 0)) is replicate 15 0
     ∷ five 1 400000000 1 is (1 ∷ 1000000000000000 ∷ 40000000000 ∷ 44000000000 ∷ 88000000000 ∷ [])
@@ -252,12 +256,13 @@ exact_cases =
     ∷ parts (exact only_without_losses (groups (0 ∷ 0 ∷ [])) 1) is (0 ∷ 1 ∷ [])
     ∷ parts (exact only_without_losses (groups (0 ∷ 0 ∷ [])) 2) is (0 ∷ 1 ∷ [])
     -- The allowance is 1 dollar where M is 0, 1 and 1.1 dollars where it is 10^15, 1.0011 dollars where it is 10^12, 1.8437 where it is the most
-    -- that an M can be, and in the printed month 1.000000429 dollars (Change 6).
+    -- that an M can be, and in the printed month 1.000000429 dollars (Change 6). Nothing of it is rounded.
     ∷ allowance 0 is_fraction 1 over 1
     ∷ allowance 1000000000000000 is_fraction 21 over 10
     ∷ allowance 1000000000000 is_fraction 10011 over 10000
     ∷ allowance 767000000000000 is_fraction 18437 over 10000
     ∷ allowance 390000000 is_fraction 1000000429 over 1000000000
+    ∷ allowance 7 is_fraction 10000000000000077 over 10000000000000000
     -- the printed month's second member falls short by 39,275,000
     ∷ map shortfall (10725000 ∷ 0 ∷ 49999999 ∷ 50000000 ∷ 418275000 ∷ []) is (39275000 ∷ 50000000 ∷ 1 ∷ 0 ∷ 0 ∷ [])
     ∷ []

@@ -1,4 +1,4 @@
-mod Samples
+pub mod Samples
 pub mod Figures
 pub mod WorkedCalls
 pub mod Passed

@@ -1,4 +1,4 @@
--- Calls worked by the register: document 01's printed month; M on each of three days; a month whose own Max EULs fall and rise; months
+-- Calls worked by the register: document 01's printed month, its shares in parts of 10^15 (document 02, Change 6); M on each of three days; a month whose own Max EULs fall and rise; months
 -- that have not begun; months with days without losses, and of such days alone; shares of a few parts; a period whose calls meet every
 -- condition of the refusal table from both sides, and every pair of its order of precedence. One table, one theorem: each answer, and each number left in a buffer,
 -- is the one due. By computation. The figures were worked out from the documents by a recalculation of its own. The largest periods are in
