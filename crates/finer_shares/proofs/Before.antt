@@ -3,10 +3,9 @@
 use mathlib.Core.Path.{◌≡◌, refl}
 use mathlib.Core.List.{List, [], ◌∷◌, map}
 use Prim.Native.Nat.{ℕ}
-use lib.IntN.{ℤ, pos}
-use lib.ListN.{length, replicate}
+use lib.IntN.{pos}
+use lib.ListN.{replicate}
 use Rattle.numbers.specs.Fractions.{Fraction}
-use Rattle.methodology.specs.declared.Opening.{Opening}
 use Rattle.methodology.specs.Account.{accounts}
 use Rattle.methodology.specs.Contribution.{KeptDay}
 use Rattle.methodology.proofs.Samples.{computed, H, Line, acct, minus, houses, day_of, opening_of}
