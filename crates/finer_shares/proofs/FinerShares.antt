@@ -121,22 +121,22 @@ module _ (o : Opening) (days : List KeptDay) (m : ℕ) where
         Σ-const (counted o days) 1000,
       )
 
-  -- where no day counts both charges are 0
-  none_counts : counted o days ≡ [] → (raw o days m ≡ 0) × (coarser_raw o days m ≡ 0)
-  none_counts none = (raw_none o days none m, rw none refl)
+  -- the coarser charge where no day counts, and where some do
+  coarser_none : counted o days ≡ [] → coarser_raw o days m ≡ 0
+  coarser_none none = rw none refl
 
-  some_count : 0 < D → coarser_raw o days m ≡ ceil_div (11 * highest o days * Σ (counted o days) coarser) (10 * D * coarser_scale)
-  some_count some = rw (ne_eqb D 0 (λ e. omega (arith, e))) refl
+  coarser_some : 0 < D → coarser_raw o days m ≡ ceil_div (11 * highest o days * Σ (counted o days) coarser) (10 * D * coarser_scale)
+  coarser_some some = rw (ne_eqb D 0 (λ e. omega (arith, e))) refl
 
   at_most : raw o days m ≤ coarser_raw o days m
   at_most =
-      none_or_some (counted o days) (λ none. omega (arith, (none_counts none).0))
-      (λ some. rw (raw_some o days some m, some_count some) (charge_at_most _ _ _ D some sum_no_more))
+      none_or_some (counted o days) (λ none. omega (arith, raw_none o days none m))
+      (λ some. rw (raw_some o days some m, coarser_some some) (charge_at_most _ _ _ D some sum_no_more))
 
   lower_by : whole (coarser_raw o days m) ≺ whole (raw o days m) ⊕ coarser_allowance (highest o days)
   lower_by =
-      none_or_some (counted o days) (λ none. omega (arith, (none_counts none).1))
-      (λ some. rw (raw_some o days some m, some_count some) (charge_lower_by _ _ _ D some sum_close))
+      none_or_some (counted o days) (λ none. omega (arith, coarser_none none))
+      (λ some. rw (raw_some o days some m, coarser_some some) (charge_lower_by _ _ _ D some sum_close))
 
   charge_between : Between (exact_charge o days m) (highest o days) (raw o days m) (coarser_raw o days m)
   charge_between = record { at_least = raw_least o days m; close = raw_close o days m; at_most = at_most; lower_by = lower_by }
