@@ -135,6 +135,7 @@ Contribution.sum_of_shares | (λ d. share (loss o.k d.accounts m) (total o d.acc
 Day.share | ceil_div (e * scale) T | ceil_div (e * 1000000000000) T
 Day.share | ceil_div (e * scale) T | 1000 * ceil_div (e * 1000000000000) T
 Day.share | ceil_div (e * scale) T | e * scale / T + 1
+Day.share | ceil_div (e * scale) T | min scale (ceil_div (e * scale) T)
 Day.share | ceil_div (e * scale) T | cond (ltb (e * scale) T) 0 (ceil_div (e * scale) T)
 Contribution.total_funded | funded (raw o days m) | raw o days m
 Contribution.unfunded | 2 * funded rawCharge | funded (2 * rawCharge)

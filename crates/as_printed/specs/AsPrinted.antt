@@ -1,6 +1,6 @@
 -- Document 02, Change 1, of the report as a person reads it off its bytes: "Each sum equals that of the day's records as printed, and the
 -- first equals T." `AsPrinted` is the claim. It says too that the days' Max EULs never fall (Change 3), what a day without losses shows
--- (Change 4), that a report with a fund leaves no day of the text out, and that each share is that of its loss and T (Change 6).
+-- (Change 4), that a report with a fund leaves no day of the text out, and that each share of a day with losses is that of the loss and T (Change 6).
 use Rattle.std.specs.Prelude.{◌≡◌, Bool, true, false, cond, not, ◌&&◌, ◌||◌, ℕ, ◌+◌, ◌*◌, ◌^◌, ◌≤◌, ◌<◌, eqb, ltb, length, get_or, take, drop}
 use mathlib.Core.List.{List, [], ◌∷◌, ◌++◌, map, flat_map}
 use Rattle.std.specs.Prelude.{Some}

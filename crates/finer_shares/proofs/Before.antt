@@ -1,5 +1,5 @@
--- Shares, charges and allowances before the change, worked out from document 01 as it stood then: this table holds the definitions that
--- `FinerShares` compares with. By computation.
+-- Shares, charges and allowances as they were before the change, worked out by the recalculation with shares of twelve places: this table holds
+-- the definitions that `FinerShares` compares with. By computation.
 use mathlib.Core.Path.{◌≡◌, refl}
 use mathlib.Core.List.{List, [], ◌∷◌, map}
 use Prim.Native.Nat.{ℕ}
@@ -43,8 +43,11 @@ pub before_the_change :
     (map (λ e. coarser_share e 1800) (450 ∷ 200 ∷ 250 ∷ 500 ∷ []) ≡ 250000000000 ∷ 111111111112 ∷ 138888888889 ∷ 277777777778 ∷ [])
     × (map (λ e. coarser_share e 4000000000006) (2000000000000 ∷ 1 ∷ 2 ∷ 3 ∷ []) ≡ 500000000000 ∷ 1 ∷ 1 ∷ 1 ∷ [])
     × (charged 5 (kept (twice 1 ∷ twice 2 ∷ houses 3 (pos 1 ∷ pos 2 ∷ pos 3 ∷ [])) ∷ []) (1 ∷ 3 ∷ 4 ∷ 5 ∷ []) ≡ 1100000000000 ∷ 3 ∷ 3 ∷ 3 ∷ [])
-    -- the sum of two shares of one part, each rounded up: 2.2 dollars, rounded up
+    -- Two shares of one part, each rounded up: 2.2 dollars, rounded up. One such share in three days, 0.73 dollars; two shares of which the
+    -- charge is rounded up once.
     × (charged 2 (kept (twice 1 ∷ houses 2 (pos 1 ∷ [])) ∷ kept (twice 1 ∷ houses 2 (pos 1 ∷ [])) ∷ []) (2 ∷ []) ≡ 3 ∷ [])
+    × (charged 2 (kept (twice 1 ∷ houses 2 (pos 0 ∷ [])) ∷ kept (twice 1 ∷ houses 2 (pos 0 ∷ [])) ∷ kept (twice 1 ∷ houses 2 (pos 1 ∷ [])) ∷ []) (2 ∷ []) ≡ 1 ∷ [])
+    × (charged 2 (kept (houses 1 (pos 1 ∷ pos 1 ∷ [])) ∷ kept (houses 1 (pos 1 ∷ pos 2 ∷ [])) ∷ []) (1 ∷ []) ≡ 1 ∷ [])
     -- three days, and a day without losses among them; no day, and such days alone
     × (charged 2 (worst ∷ middling ∷ least ∷ []) (1 ∷ 2 ∷ []) ≡ 237111112 ∷ 202888889 ∷ [])
     × (charged 2 (least ∷ nothing ∷ middling ∷ worst ∷ []) (1 ∷ 2 ∷ []) ≡ 237111112 ∷ 202888889 ∷ [])
@@ -54,5 +57,6 @@ pub before_the_change :
     × (parts (coarser_allowance 0) ≡ 10000000000000 ∷ 10000000000000 ∷ [])
     × (parts (coarser_allowance 1000000000000) ≡ 21000000000000 ∷ 10000000000000 ∷ [])
     × (parts (coarser_allowance 390000000) ≡ 10004290000000 ∷ 10000000000000 ∷ [])
+    × (parts (coarser_allowance 7) ≡ 10000000000077 ∷ 10000000000000 ∷ [])
 unfolding computed
-before_the_change = (refl, refl, refl, refl, refl, refl, refl, refl, refl, refl, refl)
+before_the_change = (refl, refl, refl, refl, refl, refl, refl, refl, refl, refl, refl, refl, refl, refl)

@@ -139,7 +139,7 @@ module _ (o : Opening) (days : List KeptDay) (m : ℕ) where
       (λ some. rw (raw_some o days some m, coarser_some some) (charge_lower_by _ _ _ D some sum_close))
 
   charge_between : Between (exact_charge o days m) (highest o days) (raw o days m) (coarser_raw o days m)
-  charge_between = record { at_least = raw_least o days m; close = raw_close o days m; at_most = at_most; lower_by = lower_by }
+  charge_between = record { at_least = raw_least o days m; below = raw_close o days m; at_most = at_most; lower_by = lower_by }
 
 -- ---- the last call of a list
 
@@ -155,7 +155,7 @@ day_writes cs c d out T Max holds is said positive m low high =
     ap (stretch 5 m) reports.writes ∙ stretch_is 5 (λ m. five (e m) Max T) (λ m. five_wide (e m) Max T) o.n m low high
     ∙ five_some (e m) Max T (λ none. omega (arith, none)) in
     record {
-      total_is = reports.t_is;
+      t_is = reports.t_is;
       loss_is = ap (λ (l : List ℕ). get_or l 0 0) numbers;
       share_is = subst (λ (l : List ℕ). RoundedUp (get_or l 0 0) T (get_or l 1 0)) (sym numbers) (rounded_up (e m) T positive);
     }
@@ -163,7 +163,8 @@ day_writes cs c d out T Max holds is said positive m low high =
 closing_writes : (cs : List Made) (c : Made) (out : List ℕ) (D M funds : ℕ) → Holds start (cs ++ (c ∷ []))
     → c.asked ≡ Asked.closing out → c.answer ≡ accepted (D ∷ M ∷ funds ∷ [])
     → let g = register_after start cs in
-    (m : ℕ) → 1 ≤ m → m ≤ g.held.n → Between (exact_charge g.held g.days m) M (raw_in c.after m) (coarser_raw g.held g.days m)
+    (m : ℕ) → 1 ≤ m → m ≤ g.held.n
+    → (raw_in c.after m ≡ raw g.held g.days m) × Between (exact_charge g.held g.days m) M (raw_in c.after m) (coarser_raw g.held g.days m)
 unfolding answer buffer accept returned written
 closing_writes cs c out D M funds holds is said m low high =
     let g = register_after start cs in
@@ -177,7 +178,7 @@ closing_writes cs c out D M funds holds is said m low high =
     let charged : raw_in c.after m ≡ raw g.held g.days m =
     ap (λ (l : List ℕ). raw_in l m) (wrote ∙ ap (λ (x : Register). written x call) left) ∙ raw_is g.held g.days m low high in
     let between : ℕ → ℕ → Type 0 = λ M finer. Between (exact_charge g.held g.days m) M finer (coarser_raw g.held g.days m) in
-    subst₂ between m_is (sym charged) (charge_between g.held g.days m)
+    (charged, subst₂ between m_is (sym charged) (charge_between g.held g.days m))
 
 -- ---- the claim
 

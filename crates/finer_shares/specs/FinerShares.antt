@@ -2,7 +2,7 @@
 -- up, and the divisor of a raw charge follows. The allowance for a charge becomes 1 dollar plus 1.1M/10^15, for each member and n times for
 -- the fund." So the definitions have it, and demand 3's `Covers` the allowance. `FinerShares` is for those who compare: a member with a
 -- fraction of its own, and whoever holds a month from before the change beside one after it. Off the bytes of a report `AsPrinted` says that
--- each share is that of the loss beside it and of T.
+-- each share of a day with losses is that of the loss beside it and of T.
 use Rattle.std.specs.Prelude.{◌≡◌, cond, ℕ, ◌*◌, ◌≤◌, ◌<◌, eqb, length, get_or}
 use mathlib.Core.List.{List, [], ◌∷◌, ◌++◌}
 use Rattle.numbers.specs.Sums.{Σ}
@@ -32,9 +32,9 @@ written_loss out m = get_or (stretch 5 m out) 0 0
 abbrev pub written_share : (out : List ℕ) → (m : ℕ) → ℕ
 written_share out m = get_or (stretch 5 m out) 1 0
 
--- of member m, what a day of these accounts returned and wrote
+-- the T that a day of these accounts returned, and the loss and the share that it wrote of member m
 pub record DayWrites (o : Opening) (accts : List Account) (T : ℕ) (out : List ℕ) (m : ℕ) : Type 0 where
-  pub total_is : T ≡ total o accts
+  pub t_is : T ≡ total o accts
   pub loss_is : written_loss out m ≡ loss o.k accts m
   pub share_is : RoundedUp (written_loss out m) T (written_share out m)
 
@@ -59,10 +59,11 @@ coarser_raw o days m =
 abbrev pub coarser_allowance : (M : ℕ) → Fraction
 coarser_allowance M = whole 1 ⊕ (11 * M) over (10 * coarser_scale)
 
--- A raw charge between the exact one and that of coarser shares: within its own allowance of the one, and within theirs of the other.
+-- A raw charge between the exact one and the one by coarser shares: less than its own allowance above the first, and less than the coarser
+-- allowance below the second.
 pub record Between (exact : Fraction) (M finer coarser : ℕ) : Type 0 where
   pub at_least : exact ≼ whole finer
-  pub close : whole finer ≺ exact ⊕ allowance M
+  pub below : whole finer ≺ exact ⊕ allowance M
   pub at_most : finer ≤ coarser
   pub lower_by : whole coarser ≺ whole finer ⊕ coarser_allowance M
 
@@ -79,8 +80,8 @@ pub record FinerShares : Type 0 where
   pub never_further : (e T : ℕ) → 0 < T → share e T over scale ≼ coarser_share e T over coarser_scale
   -- Nor is any raw charge, of any list of days.
   pub charge_between : (o : Opening) (days : List KeptDay) (m : ℕ) → Between (exact_charge o days m) (highest o days) (raw o days m) (coarser_raw o days m)
-  -- So it is of calls: of every list of which demand 3 holds, and it holds of all, compiled calls too (`every_list`, `compiled_lists` in
-  -- demand3/proofs/Demand3.antt). An accepted day with losses writes its losses and these shares, and an accepted closing these charges.
+  -- The same of calls, in every list of which demand 3 holds; that is every list, of compiled calls too (`every_list`, `compiled_lists` in
+  -- demand3/proofs/Demand3.antt). An accepted day with losses writes these and their shares, and an accepted closing the raw charges.
   pub day_writes : (cs : List Made) (c : Made) (d : DayInput) (out : List ℕ) (T Max : ℕ) → Holds start (cs ++ (c ∷ []))
       → c.asked ≡ Asked.day d out → c.answer ≡ accepted (T ∷ Max ∷ []) → 0 < T
       → let g = register_after start cs in
@@ -88,4 +89,5 @@ pub record FinerShares : Type 0 where
   pub closing_writes : (cs : List Made) (c : Made) (out : List ℕ) (D M funds : ℕ) → Holds start (cs ++ (c ∷ []))
       → c.asked ≡ Asked.closing out → c.answer ≡ accepted (D ∷ M ∷ funds ∷ [])
       → let g = register_after start cs in
-      (m : ℕ) → 1 ≤ m → m ≤ g.held.n → Between (exact_charge g.held g.days m) M (raw_in c.after m) (coarser_raw g.held g.days m)
+      (m : ℕ) → 1 ≤ m → m ≤ g.held.n
+      → (raw_in c.after m ≡ raw g.held g.days m) × Between (exact_charge g.held g.days m) M (raw_in c.after m) (coarser_raw g.held g.days m)

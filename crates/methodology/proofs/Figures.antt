@@ -1,7 +1,7 @@
 -- Document 01, "Figures to hold it to": cases 1 to 10 as one table, and one theorem: each figure that the definitions give is the one due.
 -- By computation. Every case starts from accounts in a day's slices; 1, 2, 9 and 10 go through the calls of a period. Then, beyond document
--- 01, what its figures leave open: a whole month, exact charges, days without losses, allowances and shortfalls, and words that no answer
--- shows.
+-- 01, what its figures leave open: a whole month, exact charges, shares and charges at the last place, days without losses, allowances and
+-- shortfalls, and words that no answer shows.
 use mathlib.Core.Path.{◌≡◌, refl}
 use mathlib.Core.List.{List, [], ◌∷◌, ◌++◌, map}
 use Prim.Native.Nat.{ℕ, suc, ◌+◌, ◌-◌, ◌*◌, ◌<◌, min}
@@ -230,7 +230,7 @@ exact_cases =
     -- A share has fifteen places and is rounded up at the last of them (document 02, Change 6); where it has no remainder it stays. One dollar
     -- of the greatest T has two parts.
     ∷ (share 1 1000000000000000 ∷ share 1 1000000000000001 ∷ share 1 999999999999999 ∷ share 1 767000000000000 ∷ []) is (1 ∷ 1 ∷ 2 ∷ 2 ∷ [])
-    ∷ (share 0 7 ∷ share 2 3 ∷ share 7 7 ∷ []) is (0 ∷ 666666666666667 ∷ 1000000000000000 ∷ [])
+    ∷ (share 0 7 ∷ share 2 3 ∷ share 7 7 ∷ share 3 2 ∷ []) is (0 ∷ 666666666666667 ∷ 1000000000000000 ∷ 1500000000000000 ∷ [])
     -- A charge divides the sum of such shares, once: of one part and of the most; where their mean is no whole number; and from one part to the
     -- next it passes a dollar.
     ∷ (charge 767000000000000 1 1 ∷ charge 767000000000000 31000000000000000 31 ∷ []) is (1 ∷ 843700000000000 ∷ [])
@@ -255,7 +255,7 @@ exact_cases =
     ∷ (length (counted (groups (0 ∷ 0 ∷ [])) (kept only_without_losses)) ∷ sums_and_charges (kept only_without_losses)) is replicate 5 0
     ∷ parts (exact only_without_losses (groups (0 ∷ 0 ∷ [])) 1) is (0 ∷ 1 ∷ [])
     ∷ parts (exact only_without_losses (groups (0 ∷ 0 ∷ [])) 2) is (0 ∷ 1 ∷ [])
-    -- The allowance is 1 dollar where M is 0, 1 and 1.1 dollars where it is 10^15, 1.0011 dollars where it is 10^12, 1.8437 where it is the most
+    -- The allowance is 1 dollar where M is 0, 2.1 dollars where it is 10^15, 1.0011 dollars where it is 10^12, 1.8437 where it is the most
     -- that an M can be, and in the printed month 1.000000429 dollars (Change 6). Nothing of it is rounded.
     ∷ allowance 0 is_fraction 1 over 1
     ∷ allowance 1000000000000000 is_fraction 21 over 10

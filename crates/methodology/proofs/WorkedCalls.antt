@@ -1,8 +1,8 @@
--- Calls worked by the register: document 01's printed month, its shares in parts of 10^15 (document 02, Change 6); M on each of three days; a month whose own Max EULs fall and rise; months
--- that have not begun; months with days without losses, and of such days alone; shares of a few parts; a period whose calls meet every
--- condition of the refusal table from both sides, and every pair of its order of precedence. One table, one theorem: each answer, and each number left in a buffer,
--- is the one due. By computation. The figures were worked out from the documents by a recalculation of its own. The largest periods are in
--- WorkedLimits.antt.
+-- Calls worked by the register: document 01's printed month, with the shares of document 02's Change 6; M on each of three days; a
+-- month whose own Max EULs fall and rise; months that have not begun; months with days without losses, and of such days alone; shares of a few
+-- parts; a period whose calls meet every condition of the refusal table from both sides, and every pair of its order of precedence. One table,
+-- one theorem: each answer, and each number left in a buffer, is the one due. By computation. The figures were worked out from the documents by
+-- a recalculation of its own. The largest periods are in WorkedLimits.antt.
 use mathlib.Core.Path.{◌≡◌, refl}
 use mathlib.Core.List.{List, [], ◌∷◌, ◌++◌, map}
 use Prim.Native.Nat.{ℕ, ◌*◌}
@@ -315,7 +315,8 @@ five_days days =
 
 -- ---- finer shares (document 02, Change 6)
 
--- Members that lose 1, 2 and 3 dollars beside two that lose twice the limit of an amount: in parts of 10^12 each of the three would have one.
+-- Members that lose 1, 2 and 3 dollars beside two that lose twice the limit of an amount: with twelve places each of the three would have one
+-- part.
 abbrev from_limit_to_limit : (member : ℕ) → Line
 from_limit_to_limit member = acct member 0 H (pos 1000000000000) 0 0 (minus 1000000000000 ∷ [])
 
