@@ -74,6 +74,10 @@ minus n = neg_ℤ (pos n)
 abbrev pub losing : (member number kind : ℕ) → (e : ℤ) → Line
 losing member number kind e = acct member number kind (pos (e ⁺)) (e ⁻) 0 (pos 0 ∷ [])
 
+-- an account that falls from limit to limit under the one scenario
+abbrev pub from_limit_to_limit : (member number kind : ℕ) → Line
+from_limit_to_limit member number kind = acct member number kind (pos 1000000000000) 0 0 (minus 1000000000000 ∷ [])
+
 -- house accounts with the given EULs, of members from the first on
 abbrev pub houses : (first : ℕ) → List ℤ → List Line
 houses first [] = []

@@ -11,7 +11,7 @@ use lib.ListN.{length, drop, replicate}
 use Rattle.methodology.specs.declared.Status.TheVariants.{Fresh, Open, Closed}
 use Rattle.methodology.specs.declared.Opening.{Opening}
 use Rattle.methodology.specs.Register.{Call, opening, day, closing, Register, start, step, accepted, refused, refused_at}
-use Rattle.methodology.proofs.Samples.{computed, H, R, A, U, Line, acct, minus, losing, houses, clients, day_of, opening_of, brings, Exchange, ◌gets◌, ◌gets◌writing◌, played}
+use Rattle.methodology.proofs.Samples.{computed, H, R, A, U, Line, acct, minus, losing, from_limit_to_limit, houses, clients, day_of, opening_of, brings, Exchange, ◌gets◌, ◌gets◌writing◌, played}
 
 -- the printed month
 abbrev printed : List Exchange
@@ -317,13 +317,10 @@ five_days days =
 
 -- Members that lose 1, 2 and 3 dollars beside two that lose twice the limit of an amount: with twelve places each of the three would have one
 -- part.
-abbrev from_limit_to_limit : (member : ℕ) → Line
-from_limit_to_limit member = acct member 0 H (pos 1000000000000) 0 0 (minus 1000000000000 ∷ [])
-
 abbrev few_parts : List Exchange
 few_parts =
     brings 5 1 (replicate 5 0) gets accepted []
-    ∷ day (day_of 1 (from_limit_to_limit 1 ∷ from_limit_to_limit 2 ∷ houses 3 (pos 1 ∷ pos 2 ∷ pos 3 ∷ []))) 25
+    ∷ day (day_of 1 (from_limit_to_limit 1 0 H ∷ from_limit_to_limit 2 0 H ∷ houses 3 (pos 1 ∷ pos 2 ∷ pos 3 ∷ []))) 25
     gets accepted (4000000000006 ∷ 2000000000000 ∷ [])
     writing (2000000000000 ∷ 499999999999251 ∷ 99999999999850 ∷ 109999999999835 ∷ 219999999999670
     ∷ 2000000000000 ∷ 499999999999251 ∷ 99999999999850 ∷ 109999999999835 ∷ 219999999999670

@@ -7,7 +7,7 @@ use lib.IntN.{pos}
 use lib.ListN.{replicate}
 use Rattle.std.specs.List.{range_with_len}
 use Rattle.methodology.specs.Register.{Call, day, closing, start, accepted, refused, refused_at}
-use Rattle.methodology.proofs.Samples.{computed, H, U, Line, acct, minus, losing, day_of, brings, Exchange, ◌gets◌, ◌gets◌writing◌, played}
+use Rattle.methodology.proofs.Samples.{computed, H, U, Line, acct, losing, from_limit_to_limit, day_of, brings, Exchange, ◌gets◌, ◌gets◌writing◌, played}
 
 -- Member 32, whose Affiliate is member 31, on day 31; the others lose 1. The day before it nobody loses.
 abbrev member_32 : List Exchange
@@ -83,13 +83,10 @@ accounts_256 =
 
 -- 256 accounts that fall from limit to limit: no Max EUL is higher. A day on which a dollar is lost reports it, and its cents go by it; a
 -- day without losses reports it too.
-abbrev falling : (number kind : ℕ) → Line
-falling number kind = acct 1 number kind (pos 1000000000000) 0 0 (minus 1000000000000 ∷ [])
-
 abbrev highest_of_all : List Exchange
 highest_of_all =
     brings 1 1 (0 ∷ []) gets accepted []
-    ∷ day (day_of 1 (falling 0 H ∷ map (λ i. falling i U) (range_with_len 1 255))) 5
+    ∷ day (day_of 1 (from_limit_to_limit 1 0 H ∷ map (λ i. from_limit_to_limit 1 i U) (range_with_len 1 255))) 5
     gets accepted (767000000000000 ∷ 767000000000000 ∷ [])
     writing (767000000000000 ∷ 1000000000000000 ∷ 76700000000000000 ∷ 84370000000000000 ∷ 168740000000000000 ∷ [])
     ∷ day (day_of 2 (losing 1 0 H (pos 1) ∷ [])) 5
@@ -105,7 +102,7 @@ highest_of_all =
 abbrev one_dollar : List Exchange
 one_dollar =
     brings 2 1 (0 ∷ 0 ∷ []) gets accepted []
-    ∷ day (day_of 1 (falling 0 H ∷ map (λ i. falling i U) (range_with_len 1 254) ++ (losing 2 0 H (pos 1) ∷ []))) 10
+    ∷ day (day_of 1 (from_limit_to_limit 1 0 H ∷ map (λ i. from_limit_to_limit 1 i U) (range_with_len 1 254) ++ (losing 2 0 H (pos 1) ∷ []))) 10
     gets accepted (764000000000001 ∷ 764000000000000 ∷ [])
     writing (764000000000000 ∷ 999999999999999 ∷ 76399999999999900 ∷ 84039999999999890 ∷ 168079999999999780 ∷ 1 ∷ 2 ∷ 100 ∷ 110 ∷ 220 ∷ [])
     ∷ closing 6
