@@ -103,12 +103,15 @@ impl Text<'_> {
         (self.at - self.line_start <= LINE_BYTES + 1).then_some(())
     }
 
-    /// A line of a word, its tab with it, and two numbers.
-    fn pair(&mut self, word: &[u8]) -> Option<(u64, u64)> {
+    /// A line of a word, its tab with it, and so many numbers.
+    fn numbers<const N: usize>(&mut self, word: &[u8]) -> Option<[u64; N]> {
         self.skip(word)?;
-        let pair = (self.number(b'\t')?, self.number(b'\n')?);
+        let mut numbers = [0; N];
+        for (i, number) in numbers.iter_mut().enumerate() {
+            *number = self.number(if i + 1 < N { b'\t' } else { b'\n' })?;
+        }
         self.end_line()?;
-        Some(pair)
+        Some(numbers)
     }
 
     /// An acct line, its stresses into the slice.
@@ -167,13 +170,12 @@ struct Account {
 }
 
 impl Account {
-    /// Row 5: whether it may follow the account `number` of `member`. Member 0, which has none,
-    /// comes before the first of a day.
-    fn follows(&self, member: u64, number: u64, n: usize) -> bool {
-        let house = self.member == member + 1 && self.number == 0;
+    /// Row 5: whether it may follow the account `number` of `member`, after whom `next` is the
+    /// next that is present. Member 0, which has none, comes before the first of a day.
+    fn follows(&self, member: u64, number: u64, next: Option<u64>) -> bool {
+        let house = next == Some(self.member) && self.number == 0;
         let client = self.member == member && self.number > number && member > 0;
         (house || client)
-            && self.member <= n as u64
             && self.number <= 65_535
             && self.kind != Kind::Unknown
             && house == (self.kind == Kind::House)
@@ -270,6 +272,8 @@ struct Period {
     n: usize,
     k: usize,
     groups: [usize; MEMBERS],
+    /// The first and the last day of each member.
+    presence: [(u64, u64); MEMBERS],
     last_day: u64,
     max_eul: u64,
     days: u64,
@@ -280,7 +284,7 @@ impl Period {
     /// The period and member lines, and the opening call.
     fn open(text: &mut Text) -> Result<Self, Refused> {
         text.begin_line();
-        let (n, k) = text.pair(b"period\t").ok_or(text.bad())?;
+        let [n, k] = text.numbers(b"period\t").ok_or(text.bad())?;
         let outside = Err(Refused {
             row: 1,
             line: text.line,
@@ -290,21 +294,29 @@ impl Period {
         }
         let (n, k) = (n as usize, k as usize);
         let mut groups = [0; MEMBERS];
-        for (i, group) in groups[..n].iter_mut().enumerate() {
+        let mut presence = [(1, 31); MEMBERS];
+        for i in 0..n {
             text.begin_line();
-            let (member, number) = text.pair(b"member\t").ok_or(text.bad())?;
+            let [member, group, first, last] = text.numbers(b"member\t").ok_or(text.bad())?;
             if member != i as u64 + 1 {
                 return Err(text.bad());
             }
-            *group = number as usize;
+            groups[i] = group as usize;
+            presence[i] = (first, last);
         }
         if groups.iter().any(|&group| group > MEMBERS) {
             return outside;
+        }
+        let bad = |&(first, last): &(u64, u64)| first < 1 || first > last || last > 31;
+        if let Some(index) = presence.iter().position(bad) {
+            let line = index as u64 + 2; // the member's
+            return Err(Refused { row: 10, line });
         }
         Ok(Period {
             n,
             k,
             groups,
+            presence,
             last_day: 0,
             max_eul: 0,
             days: 0,
@@ -312,15 +324,33 @@ impl Period {
         })
     }
 
+    /// The first member after this one that is present on a day, if there is one.
+    fn next_present(&self, member: u64, day: u64) -> Option<u64> {
+        let here = |&m: &u64| {
+            let (first, last) = self.presence[m as usize - 1];
+            first <= day && day <= last
+        };
+        (member + 1..=self.n as u64).find(here)
+    }
+
+    /// The member has no more accounts on the day. Member 0 has none.
+    fn end_member(&self, day: &mut Day, member: u64) {
+        if member > 0 {
+            let index = member as usize - 1;
+            day.end_member(index, self.groups[index], self.k);
+        }
+    }
+
     /// A day's lines, and the day call. Prints the day where it is accepted.
     fn day(&mut self, text: &mut Text, report: &mut Report) -> Result<(), Refused> {
-        let (number, count) = text.pair(b"day\t").ok_or(text.bad())?;
+        let [number, count] = text.numbers(b"day\t").ok_or(text.bad())?;
         let line = text.line;
         if count < 1 || count > ACCOUNTS {
             return Err(Refused { row: 4, line });
         }
         let mut day = Day::new();
         let (mut member, mut account_number) = (0, 0);
+        let mut next = self.next_present(0, number);
         let (mut bad_heading, mut bad_amount) = (None, None);
         let mut stresses = [0; SCENARIOS];
         let stresses = &mut stresses[..self.k];
@@ -335,13 +365,13 @@ impl Period {
             if bad_heading.is_some() {
                 continue;
             }
-            if !account.follows(member, account_number, self.n) {
+            if !account.follows(member, account_number, next) {
                 bad_heading = Some(text.line);
                 continue;
             }
-            if account.number == 0 && member > 0 {
-                let index = member as usize - 1;
-                day.end_member(index, self.groups[index], self.k);
+            if account.number == 0 {
+                self.end_member(&mut day, member);
+                next = self.next_present(account.member, number);
             }
             (member, account_number) = (account.member, account.number);
             if bad_amount.is_none() && !account.within_limits() {
@@ -354,7 +384,7 @@ impl Period {
         if number < 1 || number > 31 || number <= self.last_day {
             return Err(Refused { row: 3, line });
         }
-        if bad_heading.is_none() && member < self.n as u64 {
+        if bad_heading.is_none() && next.is_some() {
             bad_heading = Some(text.line + 1);
         }
         if let Some(line) = bad_heading {
@@ -363,7 +393,7 @@ impl Period {
         if let Some(line) = bad_amount {
             return Err(Refused { row: 6, line });
         }
-        day.end_member(self.n - 1, self.groups[self.n - 1], self.k);
+        self.end_member(&mut day, member);
         let total: u64 = day.losses.iter().sum();
         self.last_day = number;
         self.max_eul = self.max_eul.max(day.max_eul()); // the highest so far, which the day reports

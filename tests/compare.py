@@ -23,7 +23,7 @@ import months
 import recalculation
 
 PLACES = ["first", "between", "last", "in a row", "all"]
-ENDS = ["fund", "fund 0"] + [f"refused {row}" for row in (1, 3, 4, 5, 6, 9)]
+ENDS = ["fund", "fund 0"] + [f"refused {row}" for row in (1, 3, 4, 5, 6, 9, 10)]
 
 
 def ran(program, text):

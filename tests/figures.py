@@ -18,7 +18,8 @@ def own_max_eul(groups, *losses, margins=(0, 0, 0)):
 
 def closing(*days):
     """The contributions after days of house accounts, one scenario, no groups."""
-    period = Period(len(days[0]), 1, [0] * len(days[0]))
+    n = len(days[0])
+    period = Period(n, 1, [0] * n, [1] * n, [31] * n)
     for number, losses in enumerate(days, 1):
         period.day(number, [house(i, [loss]) for i, loss in enumerate(losses, 1)])
     return period.closing()[3]

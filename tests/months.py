@@ -20,11 +20,17 @@ class Day:
 
 
 class Month:
-    """Every field may be a whole number or the bytes to be written."""
-    def __init__(self, n, k, groups, days):
+    """Every field may be a whole number or the bytes to be written. presence: each member's first and last day, as it was
+    drawn; by default all are present on all days."""
+    def __init__(self, n, k, groups, days, presence=None):
         self.n, self.k, self.days = n, k, days
         self.period = [n, k]
-        self.members = [[i, group] for i, group in enumerate(groups, 1)]
+        self.presence = presence or [(1, 31)] * n
+        self.members = [[i, group, first, last] for i, (group, (first, last)) in enumerate(zip(groups, self.presence), 1)]
+
+    def present(self, number):
+        """The members that have accounts on a day of this number."""
+        return present(self.presence, number)
 
     def lines(self):
         """The month's lines, each a list of its fields."""
@@ -36,6 +42,10 @@ class Month:
         out.append([b"end"])
         return [[field if isinstance(field, bytes) else b"%d" % field for field in line]
                 for line in out]
+
+
+def present(presence, number):
+    return [i for i, (first, last) in enumerate(presence, 1) if first <= number <= last]
 
 
 def joined(lines):
@@ -95,12 +105,12 @@ def amounts(rng, k, style, pool, safe):
     return [base, margin, extra] + stress
 
 
-def accounts_of(rng, n, k, most, kinds, style, safe, sure):
-    """A day's accounts in good order, at most so many clients a member. Where it is sure,
+def accounts_of(rng, members, k, most, kinds, style, safe, sure):
+    """The accounts of a day's members in good order, at most so many clients a member. Where it is sure,
     a house falls that has no margin, and T is not 0."""
     pool = [amount(rng, style) for _ in range(2)]
     rows, houses = [], []
-    for member in range(1, n + 1):
+    for member in members:
         houses.append(len(rows))
         numbers = set()
         for _ in range(rng.randint(0, most)):
@@ -132,6 +142,28 @@ def numbers_of(rng, count):
     return numbers
 
 
+def presence_of(rng, n, numbers):
+    """A first and a last day for each member, often at the number of a day or beside it; somebody is present on each day. In a third of the
+    months all are present from 1 to 31."""
+    presence = [[1, 31] for _ in range(n)]
+    if rng.random() < 0.3:
+        return presence
+    beside = [day for number in numbers for day in (number - 1, number, number, number + 1) if 1 <= day <= 31]
+    for one in presence:
+        way = some(rng, (4, (0,)), (4, (1,)), (4, (0, 1)), (1, ()), (1, None))
+        if way is None:                     # one day alone
+            one[:] = [rng.choice(beside)] * 2
+            continue
+        for which in way:
+            one[which] = rng.choice(beside) if rng.random() < 0.8 else rng.randint(1, 31)
+        one.sort()
+    for number in numbers:
+        if not present(presence, number):
+            one = rng.choice(presence)
+            one[:] = min(one[0], number), max(one[1], number)
+    return presence
+
+
 def valid(rng, n=None, k=None, days=None):
     n = n or some(rng, (4, 1), (6, 2), (5, 3), (3, 4), (2, rng.randint(5, 12)), (0.4, 32))
     k = k or some(rng, (5, 1), (5, 2), (4, 3), (2, rng.randint(4, 8)), (0.7, 16))
@@ -140,13 +172,27 @@ def valid(rng, n=None, k=None, days=None):
     kinds = some(rng, (6, [b"R", b"A", b"U"]), (3, [b"R"]), (1, [b"A"]), (1, [b"U"]),
                  (2, [b"R", b"R", b"R", b"U"]))
     style, safe = rng.choice(STYLES), rng.choice((0, 0, 2, 6))
-    made = []
-    for number in numbers_of(rng, days):
+    numbers, made = numbers_of(rng, days), []
+    presence = presence_of(rng, n, numbers)
+    for number in numbers:
         if rng.random() < 0.3:
             style = rng.choice(STYLES)
         sure = rng.random() < 0.7
-        made.append(Day(number, accounts_of(rng, n, k, most, kinds, style, safe, sure)))
-    return Month(n, k, groups_of(rng, n), made)
+        made.append(Day(number, accounts_of(rng, present(presence, number), k, most, kinds, style, safe, sure)))
+    return Month(n, k, groups_of(rng, n), made, presence)
+
+
+def again(month, day, number):
+    """A day of this number with that day's accounts, but for those of members who are absent on it; one who was absent on that day has a house
+    account, like the first of all. Where nobody is present the accounts stay as they are."""
+    members = month.present(number) if isinstance(number, int) else []
+    absent = set(range(1, month.n + 1)) - set(members)
+    rows = [list(row) for row in day.accounts if not members or row[0] not in absent]
+    for member in members:
+        if all(row[0] != member for row in rows):
+            at = next((i for i, row in enumerate(rows) if isinstance(row[0], int) and row[0] > member), len(rows))
+            rows.insert(at, [member, 0, b"H"] + day.accounts[0][3:])
+    return Day(number, rows)
 
 
 # Months with days without losses
@@ -197,8 +243,8 @@ def quiet(rng):
         covered(rng, month, day)
     if rng.random() < 0.25:
         last = month.days[-1]
-        accounts = [list(row) for row in rng.choice(month.days).accounts]
-        month.days.append(Day(rng.choice((last.number, last.number - 1, month.days[0].number, last.number + 1)), accounts))
+        number = rng.choice((last.number, last.number - 1, month.days[0].number, last.number + 1))
+        month.days.append(again(month, rng.choice(month.days), number))
         if rng.random() < 0.5:
             covered(rng, month, month.days[-1])
     if rng.random() < 0.2:
@@ -256,6 +302,62 @@ def edge_group(rng, month, day):
         member = rng.choice(month.members)
         member[1] = some(rng, (3, 33), (2, 32), (1, 34), (1, 0), (3, troubled(rng, 0)),
                          (1, and_more(rng, 33)))
+
+
+def edge_presence(rng, month, day):
+    """A first or a last day at a limit, beside the other, or no such number; or the two exchanged."""
+    for _ in range(rng.choice((1, 1, 2, 3))):
+        member = rng.choice(month.members)
+        first, last = (value if isinstance(value, int) else 1 for value in member[2:])
+        which = rng.choice((2, 2, 3))
+        member[which] = some(rng, (2, 0), (2, 32), (1, 1), (1, 31), (2, last), (2, last + 1), (1, first), (1, first - 1),
+                             (3, troubled(rng, member[which])), (1, and_more(rng, rng.choice((0, 32)))))
+        if rng.random() < 0.2:
+            member[2:] = some(rng, (2, [last, first]), (1, [0, 0]), (1, [32, 32]), (1, [31, 31]), (1, [1, 1]), (1, [31, 1]))
+
+
+def edge_presence_by_one(rng, month, day):
+    """A first or a last day that lets the member in, or leaves it out, on the day, on the one before or on the one after."""
+    for _ in range(rng.choice((1, 1, 2))):
+        member, number = rng.choice(month.members), day.number if isinstance(day.number, int) else 1
+        member[rng.choice((2, 3))] = number + rng.choice((-1, 0, 0, 1))
+
+
+def edge_several_members(rng, month, day):
+    """Two faults in the member lines or more: first and last days, groups, now and then a bad form."""
+    for _ in range(rng.choice((2, 2, 3))):
+        member = rng.choice(month.members)
+        at, values = some(rng, (4, (2, (0, 32, 33))), (4, (3, (0, 32, 99))), (3, (1, (33, 34))), (1, (rng.randrange(4), (b"x", b"-1", b"01", b""))))
+        member[at] = rng.choice(values)
+
+
+def edge_absent(rng, month, day):
+    """Accounts of a member that is absent, a house account or a client; at times in place of one that is present."""
+    here = month.present(day.number) if isinstance(day.number, int) else []
+    absent = [i for i in range(1, month.n + 1) if i not in here]
+    if not absent:
+        return edge_absent_now(rng, month, day)
+    member = rng.choice(absent)
+    if rng.random() < 0.4:
+        one = min(here or [0], key=lambda other: (abs(other - member), rng.random()))
+        day.accounts = [row for row in day.accounts if row[0] != one] or day.accounts
+    at = next((i for i, row in enumerate(day.accounts) if isinstance(row[0], int) and row[0] > member), len(day.accounts))
+    number = some(rng, (4, 0), (1, 1))
+    day.accounts.insert(at, [member, number, b"R" if number else b"H"] + day.accounts[0][3:])
+    day.count = len(day.accounts)
+
+
+def edge_absent_now(rng, month, day):
+    """A member that has accounts on the day comes later or left before it, at times all members."""
+    number = day.number if isinstance(day.number, int) else 1
+    for member in [rng.choice(month.members)] if rng.random() < 0.6 else month.members:
+        at, value = rng.choice(((2, number + 1), (3, number - 1)))
+        if 1 <= value <= 31:
+            member[2:] = [1, 31]
+            member[at] = value
+    if rng.random() < 0.2:
+        day.accounts = day.accounts[:1]
+        day.count = rng.choice((0, 1))
 
 
 def edge_member_line(rng, month, day):
@@ -422,8 +524,7 @@ def edge_days(rng, month, day):
     """A day more at the end, with the same number, 32 or one that has passed."""
     last = month.days[-1]
     number = last.number if isinstance(last.number, int) else 1
-    month.days.append(Day(rng.choice((number, 32, 1, 31, number + 1)),
-                          [list(row) for row in last.accounts]))
+    month.days.append(again(month, last, rng.choice((number, 32, 1, 31, number + 1))))
 
 
 def edge_several(rng, month, day):
@@ -450,6 +551,8 @@ def edge_several(rng, month, day):
 
 MONTH_EDGES = (
     edge_form, edge_form, edge_period, edge_period, edge_group, edge_group, edge_member_line,
+    edge_presence, edge_presence, edge_presence, edge_presence_by_one, edge_presence_by_one,
+    edge_several_members, edge_several_members, edge_absent, edge_absent, edge_absent, edge_absent_now,
     edge_day_number, edge_day_number, edge_day_number, edge_count, edge_count, edge_member,
     edge_member, edge_account, edge_account, edge_kind, edge_kind, edge_kind, edge_house,
     edge_line_bytes, edge_line_bytes, edge_amount, edge_amount, edge_amount, edge_amount,
@@ -502,7 +605,7 @@ def line_fields(rng, lines):
 def line_more(rng, lines):
     """A line too many: empty, of another kind or one that has been."""
     line = rng.choice(([b""], [b"\r"], [b"end"], [b"end", b""], list(rng.choice(lines)),
-                       list(lines[0]), list(lines[1 % len(lines)]), [b"member", b"1", b"0"],
+                       list(lines[0]), list(lines[1 % len(lines)]), [b"member", b"1", b"0", b"1", b"31"],
                        [b"day", b"31", b"1"], [b"acct"], [b"period", b"1", b"1"], [b"\xff"]))
     lines.insert(some(rng, (2, rng.randint(0, len(lines))), (1, len(lines)), (1, len(lines) - 1)),
                  line)
@@ -663,14 +766,15 @@ def acct_bytes(day):
     return len(joined(Month(1, 1, [], [day]).lines()[2:-1]))
 
 
-def full_day(rng, number, n, k, count):
-    """A day of count accounts in good order, their numbers long."""
-    clients = [0] * n
-    for _ in range(count - n):
-        clients[rng.randrange(n)] += 1
+def full_day(rng, number, n, k, count, members=None):
+    """A day of count accounts in good order, their numbers long; of these members, by default of all n."""
+    members = members or range(1, n + 1)
+    clients = dict.fromkeys(members, 0)
+    for _ in range(count - len(members)):
+        clients[rng.choice(members)] += 1
     rows = []
-    for member in range(1, n + 1):
-        for account in [0] + sorted(rng.sample(range(1, 65_536), clients[member - 1])):
+    for member in members:
+        for account in [0] + sorted(rng.sample(range(1, 65_536), clients[member])):
             kind = rng.choice((b"R", b"A", b"U")) if account else b"H"
             margin = rng.randint(10**11, LIMIT)
             npvs = [rng.randint(-LIMIT, LIMIT) for _ in range(k + 1)]
@@ -698,12 +802,13 @@ def sized(rng, day, size):
 def day_bytes(rng):
     """One to three days with acct lines of about 65,536 bytes, all in good order."""
     n, k, days = rng.randint(1, 32), rng.choice((14, 15, 16)), rng.choice((1, 1, 2, 3))
-    made = []
-    for number in numbers_of(rng, days):
-        day = full_day(rng, number, n, k, rng.randint(240, 256))
+    numbers, made = numbers_of(rng, days), []
+    presence = presence_of(rng, n, numbers)
+    for number in numbers:
+        day = full_day(rng, number, n, k, rng.randint(240, 256), present(presence, number))
         size = DAY_BYTES + rng.choice((-30_000, -1, 0, 0, 0, 0, 1, 1, 2, 200))
         made.append(sized(rng, day, size))
-    month = Month(n, k, groups_of(rng, n), made)
+    month = Month(n, k, groups_of(rng, n), made, presence)
     if rng.random() < 0.3:
         rng.choice(MONTH_EDGES)(rng, month, rng.choice(month.days))
     return joined(month.lines())
@@ -730,8 +835,9 @@ def many_accounts(rng):
     """256 or 257 short accounts."""
     n, k = rng.randint(1, 32), rng.randint(1, 2)
     count = rng.choice((256, 256, 257, 255))
-    month = Month(n, k, groups_of(rng, n),
-                  [full_day(rng, number, n, k, count) for number in numbers_of(rng, 1)])
+    number, = numbers_of(rng, 1)
+    presence = presence_of(rng, n, [number])
+    month = Month(n, k, groups_of(rng, n), [full_day(rng, number, n, k, count, present(presence, number))], presence)
     if rng.random() < 0.4:
         rng.choice(MONTH_EDGES + (edge_most,) * 20)(rng, month, month.days[0])
     return joined(month.lines())
@@ -748,15 +854,15 @@ def many_days(rng):
 
 
 def full(rng):
-    """31 days of the full size, at times with a 32nd and more after it."""
+    """31 days of the full size, at times with a 32nd and more after it. On one of them some members join, and others have left before it."""
     n, k = rng.choice((1, 31, 32)), 16
-    first = [full_day(rng, number, n, k, 256) for number in (1, 2)]
-    for day in first:
-        sized(rng, day, DAY_BYTES)
-    days = [Day(number, first[number % 2].accounts) for number in range(1, 32)]
+    turn = rng.randint(2, 31)
+    presence = [(1, 31)] + [some(rng, (3, (1, 31)), (1, (turn, 31)), (1, (1, turn - 1))) for _ in range(n - 1)]
+    made = [[sized(rng, full_day(rng, number, n, k, 256, present(presence, number)), DAY_BYTES) for _ in range(2)] for number in (1, turn)]
+    days = [Day(number, made[number >= turn][number % 2].accounts) for number in range(1, 32)]
     more = rng.choice((0, 0, 1, 1, 2, 3))
-    days += [Day(rng.choice((31, 32, 1, 0)), first[0].accounts) for _ in range(more)]
-    text = joined(Month(n, k, groups_of(rng, n), days).lines())
+    days += [Day(rng.choice((31, 32, 1, 0)), days[-1].accounts) for _ in range(more)]
+    text = joined(Month(n, k, groups_of(rng, n), days, presence).lines())
     if rng.random() < 0.3:
         text = rng.choice(DAMAGES)(rng, text)
     return text

@@ -1,5 +1,5 @@
 #!/usr/bin/env python3
-"""Document 01, with Changes 1 to 6 of document 02, recalculated in its own order, with exact fractions.
+"""Document 01, with Changes 1 to 7 of document 02, recalculated in its own order, with exact fractions.
 
 Reads a month's text on standard input and writes the report on standard output.
 """
@@ -50,7 +50,7 @@ def member_eul(euls):
 # From members to the day
 
 def day_figures(n, k, groups, accounts):
-    """T, the day's own Max EUL and each member's loss."""
+    """T, the day's own Max EUL and each member's loss. An absent member has no accounts: its EULs are 0 (document 02, Change 7)."""
     of_member = [[a for a in accounts if a.member == m] for m in range(1, n + 1)]
     e = [max(member_eul([(a.kind, own_eul(a)) for a in own]), 0) for own in of_member]
     greatest = 0
@@ -92,17 +92,20 @@ def three(m, d, shares):
 # Calls on a period. A month's text cannot meet row 2, nor the lengths of rows 1 and 4.
 
 class Refusal(Exception):
-    """number: the row. index: of the first bad account, in rows 5 and 6."""
+    """number: the row. index: of the first bad account, in rows 5 and 6; in row 10 the member's number."""
     def __init__(self, number, index=None):
         self.number, self.index = number, index
 
 
 class Period:
-    def __init__(self, n, k, groups):
-        """The opening call."""
+    def __init__(self, n, k, groups, firsts, lasts):
+        """The opening call. In order: 1, 10."""
         if not limits_hold(n, k) or any(g > 32 for g in groups):
             raise Refusal(1)
-        self.n, self.k, self.groups = n, k, groups
+        for m, (first, last) in enumerate(zip(firsts, lasts), 1):
+            if first > last or not 1 <= first <= 31 or not 1 <= last <= 31:
+                raise Refusal(10, m)                # the first such member's number (document 02, Change 7)
+        self.n, self.k, self.groups, self.firsts, self.lasts = n, k, groups, firsts, lasts
         self.last = 0
         self.own = []                               # of each accepted day its own Max EUL
         self.counted = 0                            # the days with T above 0: D (document 02, Change 4)
@@ -114,7 +117,7 @@ class Period:
             raise Refusal(4)
         if not 1 <= number <= 31 or number <= self.last:
             raise Refusal(3)
-        bad = self.bad_heading(accounts)
+        bad = self.bad_heading(number, accounts)
         if bad is not None:
             raise Refusal(5, bad)
         for i, account in enumerate(accounts):
@@ -128,25 +131,31 @@ class Period:
         if t > 0:
             self.counted += 1
             for shares, figures in zip(self.shares, fives):
-                shares.append(figures[1])
+                shares.append(figures[1])           # 0 of an absent member (document 02, Change 7)
         return t, reported, fives
 
-    def bad_heading(self, accounts):
-        """The index of the first account bad by row 5, or None."""
+    def present(self, m, number):
+        """Whether member m has accounts on the day of this number (document 02, Change 7)."""
+        return self.firsts[m - 1] <= number <= self.lasts[m - 1]
+
+    def bad_heading(self, number, accounts):
+        """The index of the first account of the day of this number that is bad by row 5, or None."""
+        due = [m for m in range(1, self.n + 1) if self.present(m, number)]
         before = (0, 0)             # member and account number
         for i, a in enumerate(accounts):
             this = (a.member, a.number)
             first = a.member != before[0]
             if (not 1 <= a.member <= self.n
+                    or a.member not in due                  # of an absent member
                     or i > 0 and this <= before             # not strictly rising
                     or a.number > 65_535
                     or a.kind not in (H, R, A, U)
                     or (a.number == 0) != (a.kind == H)
                     or first and a.number != 0              # a member's first is not 0
-                    or a.member > before[0] + 1):           # a member skipped
+                    or any(before[0] < m < a.member for m in due)):     # a present member skipped
                 return i
             before = this
-        return len(accounts) if before[0] != self.n else None
+        return len(accounts) if any(m > before[0] for m in due) else None   # the last present ones are missing
 
     def closing(self):
         """The closing call: D, M, the total funded and three numbers a member."""
@@ -231,13 +240,15 @@ def month(text, say):
         (n, k), _ = lines.of(b"period", [number, number])
         if not limits_hold(n, k):
             raise Refused(1, lines.at)          # before the lines under it are read
-        groups = []
+        groups, firsts, lasts = [], [], []
         for i in range(1, n + 1):
-            (member, group), _ = lines.of(b"member", [number, number])
+            (member, group, first, last), _ = lines.of(b"member", [number, number, number, number])
             if member != i:
                 raise Refusal(9)
             groups.append(group)
-        period = call(lambda: Period(n, k, groups), {1: 1})
+            firsts.append(first)
+            lasts.append(last)
+        period = call(lambda: Period(n, k, groups, firsts, lasts), {1: 1}, 1)   # 10 stands at the member's line
         while True:
             fields, _ = lines.next()
             if fields[0] == b"end":

@@ -20,8 +20,8 @@ def period(n, k):
     return line("period", n, k)
 
 
-def member(number, group=0):
-    return line("member", number, group)
+def member(number, group=0, first=1, last=31):
+    return line("member", number, group, first, last)
 
 
 def day(number, count):
@@ -70,9 +70,24 @@ def text(*lines):
     return "".join(line + "\n" for line in lines)
 
 
-def month(k, groups, *days):
-    """A month in good order; a day is its number and its acct lines."""
-    lines = [period(len(groups), k)] + [member(i, group) for i, group in enumerate(groups, 1)]
+def between(first, last, group=0):
+    """A member that is present from a first to a last day."""
+    return group, first, last
+
+
+def joins(first, group=0):
+    return between(first, 31, group)
+
+
+def leaves(last, group=0):
+    """A member whose last day is this."""
+    return between(1, last, group)
+
+
+def month(k, members, *days):
+    """A month in good order; a member is its group alone, or with its first and last day; a day is its number and its acct lines."""
+    lines = [period(len(members), k)]
+    lines += [member(i, *(one if isinstance(one, tuple) else [one])) for i, one in enumerate(members, 1)]
     for number, *accounts in days:
         lines += [day(number, len(accounts)), *accounts]
     return text(*lines, END)
@@ -134,7 +149,7 @@ def stored(name):
         return "\n".join(map(formed, file.read().split("\n")))
 
 
-# Each word's function, and how many fields its line was stored with, at least and at most.
+# Each word's function, and how many fields its line was stored with, at least and at most; a line stored since with all its fields has more.
 FORMS = {"period": (period, 2, 2), "member": (member, 2, 2), "day": (day, 2, 2), "acct": (acct, 7, 22)}
 
 
@@ -687,10 +702,190 @@ PARTS = [
     ("one member: eleven clients, T above its Max EUL; 9 for a surplus acct line", stored("finer-42")),
 ]
 
+# Members who join or leave (document 02, Change 7).
+PRESENCE = [
+    ("joins on the tenth: no account on the ninth, one on the tenth and on the eleventh", month(
+        1, [0, joins(10)], (9, house(1, 30)), (10, house(1, 10), house(2, 20)), (11, house(1, 10), house(2, 30)))),
+    ("joins on the tenth: an account on the ninth", month(1, [0, joins(10)], (9, house(1, 30), house(2, 20)))),
+    ("joins on the tenth: no account on the tenth", month(1, [0, joins(10)], (10, house(1, 30)))),
+    ("leaves on the tenth: an account on the ninth and on the tenth, none on the eleventh", month(
+        1, [leaves(10), 0], (9, house(1, 30), house(2, 10)), (10, house(1, 20), house(2, 10)), (11, house(2, 30)))),
+    ("leaves on the tenth: no account on the tenth", month(1, [leaves(10), 0], (10, house(2, 30)))),
+    ("leaves on the tenth: an account on the eleventh", month(1, [leaves(10), 0], (11, house(1, 20), house(2, 30)))),
+    ("present on the tenth alone", month(1, [0, between(10, 10)], (9, house(1, 30)), (10, house(1, 10), house(2, 20)), (11, house(1, 20)))),
+    ("one member leaves on day 1 and the other joins on day 31", month(1, [leaves(1), joins(31)], (1, house(1, 40)), (31, house(2, 20)))),
+    ("5 for a day between them, on which nobody is present", month(1, [leaves(1), joins(31)], (1, house(1, 40)), (30, house(2, 20)))),
+    ("5 for the account of the only member, which is absent", month(1, [between(5, 6)], (4, house(1, 1)))),
+    ("the first member is absent", month(1, [between(5, 6), 0], (4, house(2, 1)))),
+    ("the second of three members is absent", month(1, [0, joins(10), 0], (9, house(1, 10), house(3, 20)))),
+    ("two members in a row are absent, and the last; one of them has left, two are to come", month(
+        1, [0, joins(10), leaves(8), 0, joins(31)], (9, house(1, 10), house(4, 20)))),
+    ("an Affiliate joins two others: the highest is their sum, then the sum of all three", month(
+        1, [1, joins(10, 1), 1, 0], (9, house(1, 100), house(3, 30), house(4, 120)),
+        (10, house(1, 100), house(2, 80), house(3, 30), house(4, 120)))),
+    ("5 for an absent member's account, the first of all", month(1, [between(5, 6), 0], (4, house(1, 390000000), house(2, 10000000)))),
+    ("5 for an absent member's account between those of two that are present", month(1, [0, joins(10), 0], (9, house(1, 1), house(2, 2), house(3, 3)))),
+    ("5 for an absent member's account, the first, in place of the next member's", month(1, [joins(10), 0, 0], (9, house(1, 1), house(3, 3)))),
+    ("5 for an absent member's account in place of that of the member before it", month(1, [0, joins(10), 0], (9, house(2, 2), house(3, 3)))),
+    ("5 for an absent member's account, the last, in place of the next member's", month(1, [0, joins(10), 0], (9, house(1, 1), house(2, 2)))),
+    ("5 for an absent member's account, the last, in place of that of the member before it", month(
+        1, [0, 0, joins(10)], (9, house(1, 1), house(3, 3)))),
+    ("5 for an absent member's account, not 6 for a base before it", month(1, [0, joins(10)], (9, house(1, 10**12 + 1), house(2, 2)))),
+    ("5 past the accounts: the last present member is missing, an absent one comes after it", month(1, [0, 0, between(5, 5)], (4, house(1, 1)))),
+    ("5 past the accounts: the last member is missing, an absent one comes before it", month(1, [0, joins(10), 0], (9, house(1, 1)))),
+    ("5 for a first account that passes over a present member, and over an absent one", month(1, [between(5, 6), 0, 0], (4, house(3, 1)))),
+    ("5 for an account that passes over an absent member, then over a present one", month(1, [0, joins(10), 0, 0], (9, house(1, 1), house(4, 4)))),
+    ("5 for an account that passes over a present member, then over an absent one", month(1, [0, 0, joins(10), 0], (9, house(1, 1), house(4, 4)))),
+    ("a mean over two days, on one of which a member is absent: it is charged half of what its own day would make", month(
+        1, [0, joins(10)], (9, house(1, 100000000)), (10, house(1, 100000000), house(2, 300000000)))),
+    ("absent on the one day that counts, present on one without losses: no charge", month(
+        1, [0, joins(10)], (9, house(1, 100000000)), (10, house(1, 0), house(2, 0)))),
+    ("absent on a day without losses, present on the one that counts", month(
+        1, [leaves(9), joins(10)], (9, house(1, 0)), (10, house(2, 100000000)))),
+    ("10 for a first day 0", month(1, [between(0, 31)])),
+    ("10 for a first day 32, which is the last day too", month(1, [between(32, 32)])),
+    ("10 for a last day 0, which is the first day too", month(1, [between(0, 0)])),
+    ("10 for a last day 32", month(1, [between(1, 32)])),
+    ("10 for a first day one above the last", month(1, [between(6, 5)])),
+    ("10 for a first day 2^32 + 2", month(1, [between(2**32 + 2, 31)])),
+    ("10 for a last day 2^32 + 2", month(1, [between(1, 2**32 + 2)])),
+    ("10 for a first and a last day that have changed places", month(1, [between(31, 1)])),
+    ("10 at the second of four members, for its last day; the third one's first day is 0, the fourth one's is above its last", month(
+        1, [0, between(1, 32), between(0, 31), between(6, 5)])),
+    ("10 at the second of three members, for its first day; the third one's last day is 32", month(1, [0, between(0, 31), between(1, 32)])),
+    ("10 at the third of four members, for a first day above its last; the fourth one's last day is 32", month(
+        1, [0, joins(31), between(9, 8), leaves(32)])),
+    ("1 for the second member's group, not 10 at the first", month(1, [between(6, 5), 33])),
+    ("9 for the second member's line, not 10 at the first", text(period(2, 1), member(1, 0, 6, 5), member(2, 0, 1, "x"), END)),
+    ("10 at the member, not 9 for a bad line after the members", text(period(1, 1), member(1, 0, 6, 5), "x")),
+    ("9 for a member line without its first and last day", example((3, fewer(fewer(member(2)))))),
+    ("9 for nothing for a first day", month(1, [between("", 31)])),
+    ("9 for a minus in a last day", month(1, [between(1, -1)])),
+]
+
+PRESENCE_ONLY = [
+    ("no day, one member joins and one leaves", month(1, [joins(10), leaves(20)])),
+    ("joins on the tenth: no account on the eleventh", month(1, [0, joins(10)], (11, house(1, 30)))),
+    ("leaves on the tenth: no account on the ninth", month(1, [leaves(10), 0], (9, house(2, 30)))),
+    ("4 for no account, and nobody is present", month(1, [between(5, 6)], (4,))),
+    ("one member alone is present, before and after it one is absent", month(1, [joins(10), 0, leaves(8)], (9, house(2, 7)))),
+    ("present on the tenth alone: no account on it", month(1, [0, between(10, 10)], (10, house(1, 30)))),
+    ("present on the tenth alone: an account on the ninth", month(1, [0, between(10, 10)], (9, house(1, 30), house(2, 20)))),
+    ("present on the tenth alone: an account on the eleventh", month(1, [0, between(10, 10)], (11, house(1, 30), house(2, 20)))),
+    ("everybody absent: 5 for the first of two accounts", month(1, [leaves(8), joins(10)], (9, house(1, 1), house(2, 2)))),
+    ("everybody absent: 3 for day 32", month(1, [between(5, 6)], (32, house(1, 1)))),
+    ("a member takes the place of another from day to day", month(
+        1, [leaves(3), between(4, 4), joins(5)], (3, house(1, 10)), (4, house(2, 20)), (5, house(3, 30)), (31, house(3, 40)))),
+    ("the group of an absent Affiliate, of one that is present and of one that leaves", month(
+        2, [joins(4, 5), leaves(4, 5), 5, 0], (3, falls(2, 60, 10), falls(3, 50, 20), falls(4, 100, 0)),
+        (4, falls(1, 40, 90), falls(2, 60, 10), falls(3, 50, 20), falls(4, 100, 0)), (5, falls(1, 40, 90), falls(3, 50, 20), falls(4, 100, 0)))),
+    ("32 members, of whom the even ones are absent on day 9, the odd ones on day 10", month(
+        1, [leaves(9) if i % 2 else joins(10) for i in range(1, 33)], (9, *(house(i, i * i) for i in range(1, 33, 2))),
+        (10, *(house(i, i * i) for i in range(2, 33, 2))))),
+    ("32 members, of whom the last alone is present", month(1, [joins(10)] * 31 + [0], (9, house(32, 7)))),
+    ("32 members, of whom the first alone is present; 5 on day 10, where the others are missing", month(
+        1, [0] + [joins(10)] * 31, (9, house(1, 7)), (10, house(1, 7)))),
+    ("member k joins on day k: 31 members, 31 days", month(
+        1, [joins(i) for i in range(1, 32)], *((number, *(house(i, i * number) for i in range(1, number + 1))) for number in range(1, 32)))),
+    ("5 for an absent member's client", month(1, [0, joins(10)], (9, house(1, 1), acct(2, 1, "R", 1, 0, 0, 0)))),
+    ("5 for a present member's client after an absent one, its house account is missing", month(
+        1, [joins(10), 0], (9, acct(2, 1, "R", 1, 0, 0, 0)))),
+    ("5 for an unknown kind before an absent member's account", month(1, [0, joins(10)], (9, acct(1, 0, "X", 1, 0, 0, 0), house(2, 1)))),
+    ("5 for an absent member's account before an unknown kind", month(1, [joins(10), 0], (9, house(1, 1), acct(2, 0, "X", 1, 0, 0, 0)))),
+    ("5 for an absent member's account that is out of order as well", month(1, [joins(10), 0], (9, house(2, 1), house(1, 1)))),
+    ("6 on a day on which a member is absent", month(1, [joins(10), 0, joins(10)], (9, house(2, 10**12 + 1)))),
+    ("10 for a first day 32 above the last", month(1, [between(32, 31)])),
+    ("10 for a last day 0 below the first", month(1, [between(1, 0)])),
+    ("10 for a first day 2^8 + 1", month(1, [between(2**8 + 1, 31)])),
+    ("10 for a last day 2^8 + 1", month(1, [between(1, 2**8 + 1)])),
+    ("10 for a first and a last day 2^8 + 1", month(1, [between(2**8 + 1, 2**8 + 1)])),
+    ("10 for a first day 2^16 + 1", month(1, [between(2**16 + 1, 31)])),
+    ("10 for a last day 2^16 + 1", month(1, [between(1, 2**16 + 1)])),
+    ("10 for a first day of 13 digits", month(1, [between(9999999999999, 31)])),
+    ("10 for a last day of 13 digits", month(1, [between(1, 9999999999999)])),
+    ("10 at the last of 32 members", month(16, [0] * 31 + [between(31, 30)])),
+    ("10 at the first of two members with the same fault", month(1, [between(6, 5), between(6, 5)])),
+    ("1 for the first member's group, not 10 at the second", month(1, [33, between(6, 5)])),
+    ("1 for the group of a member whose first day is above its last", month(1, [between(6, 5, 33)])),
+    ("1 for k, not 10", month(17, [between(6, 5)])),
+    ("10 at the member, not 4 for the first day's count", text(period(1, 1), member(1, 0, 6, 5), day(3, 0), END)),
+    ("10 at the member, not 9 for a surplus member line", text(period(1, 1), member(1, 0, 6, 5), member(2), END)),
+    ("10 at the member, and no line after it", text(period(1, 1), member(1, 0, 6, 5))),
+    ("9 for a member line missing, not 10 at the first", text(period(2, 1), member(1, 0, 6, 5))),
+    ("9 for a wrong number in a member line, not 10", text(period(1, 1), member(2, 0, 6, 5), END)),
+    ("9 for a member line of a field too many, not 10", text(period(1, 1), more(member(1, 0, 6, 5)), END)),
+    ("9 for a member line without its last day, not 10", text(period(1, 1), fewer(member(1, 0, 32)), END)),
+    ("9 for a first day 01", month(1, [between("01", 31)])),
+    ("9 for a minus in a first day", month(1, [between(-1, 31)])),
+    ("9 for a plus in a first day", month(1, [between("+1", 31)])),
+    ("9 for a first day of 14 digits", month(1, [between(10000000000000, 31)])),
+    ("9 for x for a first day", month(1, [between("x", 31)])),
+    ("9 for nothing for a last day", month(1, [between(1, "")])),
+    ("9 for a last day 031", month(1, [between(1, "031")])),
+    ("9 for a last day of 14 digits", month(1, [between(1, 10000000000000)])),
+    ("9 for a plus in a last day", month(1, [between(1, "+31")])),
+    ("9 for a last day 31x", month(1, [between(1, "31x")])),
+    ("9 for a CR after a last day", month(1, [between(1, "31\r")])),
+]
+
+# Months drawn at random, of which some have members who join or leave.
+JOINS = [
+    ("one member: seven clients that its house account and margin do not cover, then two small days", stored("joins-00")),
+    ("one member, who joins on day 31; 5 for its account on day 1", stored("joins-01")),
+    ("two members of one group, one of whom has left before the only day", stored("joins-02")),
+    ("1 for group 33 of the only member", month(1, [33], (1, falls(1, 5)))),
+    ("one member: two equal days of T above 0 and Max EUL 0", stored("joins-03")),
+    ("10 for a last day 0", stored("joins-04")),
+    ("two members who leave on day 11, one of whom joins on day 10; 5 on day 8 for a number of 13 digits", stored("joins-05")),
+    ("one member: a day of 2 dollars, then one of millions with its house account alone", stored("joins-06")),
+    ("two members: T 800, 400 and 200, each share without a remainder", month(
+        1, [0, 0], (1, falls(1, 766), falls(2, 34)), (2, falls(1, 60), falls(2, 340)), (3, falls(1, 178), falls(2, 22)))),
+    ("one member: a raw charge that rounds up to the minimum", month(1, [0], (1, falls(1, 45454544)), (2, falls(1, 45454545)))),
+    ("10 for the second member's last day 32", stored("joins-07")),
+    ("two members: 7 dollars beside 915, 18 and 301 millions", month(
+        1, [0, 0], (2, falls(1, 915848264), falls(2, 7)), (21, falls(1, 18109428), falls(2, 7)), (26, falls(1, 301376274), falls(2, 7)))),
+    ("two members, one of whom has left and one is there; 9 for a margin that is empty", stored("joins-08")),
+    ("two members of one group, one of whom is there on the second and the third of four days; the last is one without losses", stored("joins-09")),
+    ("four members: halves, halves of the others and quarters", stored("joins-10")),
+    ("four members, two of one group: a worst scenario for each", month(
+        3, [1, 32, 0, 1], (1, falls(1, 100, 100, 100), falls(2, 0, 100, 100, margin=30), falls(3, 100, 80, 150, margin=110),
+                           falls(4, 0, 80, 0, margin=200)),
+        (2, falls(1, 100, 100, 100), falls(2, 0, 0, 80, margin=30), falls(3, 0, 100, 80, margin=200), falls(4, 150, 0, 0)))),
+    ("10 at the last of four members, for a last day 0; the first one is absent", stored("joins-11")),
+    ("one member, present from day 12 to day 20; 5 for kind X", stored("joins-12")),
+    ("9 for a last day -01", stored("joins-13")),
+    ("two members: 7 dollars beside 643, 438 and 742 millions", month(
+        1, [0, 0], (6, falls(1, 643401151), falls(2, 7)), (7, falls(1, 438354014), falls(2, 7)), (31, falls(1, 742432785), falls(2, 7)))),
+    ("two members of one group: two equal days", month(
+        1, [1, 1], *((number, falls(1, 200000000), falls(2, 200000000)) for number in (1, 2)))),
+    ("four groups of one member each, of whom the third joins on day 20 and the first alone loses on day 5", stored("joins-14")),
+    ("two members; 5 on a second day, where the last one is missing", stored("joins-15")),
+    ("four members, one of whom left the day before, and one joined on day 20 and loses nothing", stored("joins-16")),
+    ("four members of one group, one of whom has the whole loss on two days and leaves before the other two", stored("joins-17")),
+    ("two members, one of whom is absent on all four days, two of them without losses", stored("joins-18")),
+    ("one member, three scenarios: a day without losses, and three from millions to millions of millions", stored("joins-19")),
+    ("one member, present on all days: one dollar", stored("joins-20")),
+    ("two members of one group, one of whom has thirteen clients and the whole loss", stored("joins-21")),
+    ("one member, present from day 16 to day 26", stored("joins-22")),
+    ("one member: a day without losses alone", stored("joins-23")),
+    ("one member, three scenarios: a day without losses, then three that count", stored("joins-24")),
+    ("two members of one group, of whom one comes the day after the other has left", stored("joins-25")),
+    ("four members, of whom two are absent on day 1; 9 for a day line and an acct line in one", stored("joins-26")),
+    ("four members; 9 for a line cut short", stored("joins-27")),
+    ("two members of one group, one of whom left on day 7, on day 8", stored("joins-28")),
+    ("9 for a member line of a field too few", stored("joins-29")),
+    ("9 for a day line cut in two", stored("joins-30")),
+    ("one member: two days without losses; 9 on a third for a letter in a stress", stored("joins-31")),
+    ("one member, who leaves on day 26; 5 for kind R and a minus", stored("joins-32")),
+    ("one member: T 1 and Max EUL 0; 9 on a second day for a letter in a base", stored("joins-33")),
+    ("two members, who leave on days 22 and 20; 9 for a letter in a base", stored("joins-34")),
+    ("two members, one of whom joins on day 18, on day 17; 9 for a field too many", stored("joins-35")),
+]
+
 # Of the months of VALID the longest is run by `vectors` alone, of those of TOTALS all but these: cents rounded both ways, a group, two days
 # of one T, a day of own Max EUL 0, equal days; of those of NOT_BEGUN and of FINER the first two are worked out, of those of SO_FAR, QUIET
-# and PARTS six short ones each.
+# and PARTS six short ones each, of those of JOINS four.
 WORKED = (BOTH + WORKED_ONLY + VALID[:5] + VALID[6:] + [TOTALS[i] for i in (1, 6, 12, 14, 15)] + NOT_BEGUN[:2]
           + [SO_FAR[i] for i in (2, 8, 13, 18, 29, 43)] + WITHOUT_LOSSES + [QUIET[i] for i in (0, 6, 17, 19, 29, 44)] + ANY_ORDER
-          + FINER[:2] + [PARTS[i] for i in (2, 7, 18, 20, 31, 32)])
-VECTORS = BOTH + VALID + VECTORS_ONLY + TOTALS + NOT_BEGUN + SO_FAR + WITHOUT_LOSSES + QUIET + ANY_ORDER + FINER + PARTS
+          + FINER[:2] + [PARTS[i] for i in (2, 7, 18, 20, 31, 32)] + PRESENCE + [JOINS[i] for i in (1, 16, 21, 23)])
+VECTORS = BOTH + VALID + VECTORS_ONLY + TOTALS + NOT_BEGUN + SO_FAR + WITHOUT_LOSSES + QUIET + ANY_ORDER + FINER + PARTS + PRESENCE + PRESENCE_ONLY + JOINS

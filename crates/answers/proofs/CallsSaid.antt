@@ -10,7 +10,7 @@ use Rattle.methodology.specs.Refusals.{clear}
 use Rattle.methodology.specs.declared.Opening.{Opening}
 use Rattle.methodology.specs.Account.{DayInput}
 use Rattle.methodology.specs.Register.{Call, Register, start, refusal, accept, step, returned, written, Answer, accepted, refused_by, answer_by, answer, buffer}
-use Rattle.methodology.specs.Text.{refused_line, line_named, day_lines, fund_lines, Expected, day, followed_by}
+use Rattle.methodology.specs.Text.{refused_line, opening_line_named, line_named, day_lines, fund_lines, Expected, day, followed_by}
 use Rattle.methodology.specs.Text.{opened as Text·opened, sized as Text·sized, closed as Text·closed}
 use Rattle.methodology.proofs.Passed.{step_clear}
 use Rattle.period.specs.declared.Period.{Period}
@@ -32,9 +32,9 @@ module _ (o : Opening) where
   opening_says m = sym (opening_follows starts m).1
 
   pub opening_refused : (met : Refusal) {left : Period} → OpeningMeets fresh_period o (refused_by met) left → (rest : Expected → List ℕ)
-      → followed_by (Text·opened (refusal start first) o) rest ≡ refused_line met 1
+      → followed_by (Text·opened (refusal start first) o) rest ≡ refused_line met (opening_line_named (row_index met))
   unfolding Text·opened followed_by
-  opening_refused met m rest = let t = is_told (refusal start first) _ met (opening_says m) in rw (t.is, t.number) refl
+  opening_refused met m rest = let t = is_told (refusal start first) _ met (opening_says m) in rw (t.is, t.number, t.index) refl
 
   module _ {left : Period} (m : OpeningMeets fresh_period o (accepted []) left) where
     opening_clear : refusal start first ≡ clear

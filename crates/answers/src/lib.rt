@@ -1,5 +1,5 @@
-// What a call says, as the report prints it. An accepted opening prints nothing, and what refuses an opening or a closing names the call's own
-// line, so `Printer::refusal` prints it.
+// What a call says, as the report prints it. An accepted opening prints nothing, and what refuses a closing names the call's own line, so
+// `Printer::refusal` prints it.
 #![tactic(auto)]
 
 mod totals;
@@ -7,7 +7,7 @@ mod totals;
 ghost use Rattle.std.specs.Prelude.{◌*◌, ◌≤◌, ◌<◌, ◌^◌, length};
 ghost use Rattle.std.specs.List.{AllByRecursion};
 ghost use Rattle.methodology.specs.RowNumbers.{row_index};
-ghost use Rattle.methodology.specs.Text.{refused_line, line_named, totals, day_lines, fund_lines};
+ghost use Rattle.methodology.specs.Text.{refused_line, opening_line_named, line_named, totals, day_lines, fund_lines};
 ghost use Rattle.report.specs.Prints.{Prints};
 ghost use Rattle.period.specs.Reading.{day_returned, closing_returned};
 
@@ -15,6 +15,19 @@ use crate::totals::day_totals;
 use methodology::Refusal;
 use period::{ClosingReturns, DayReturns};
 use report::Printer;
+
+// The line of a refused opening, whose own line is the first: row 10 names a member's, by its number.
+#[tactic(auto, unfolding(methodology::specs::Text::opening_line_named))]
+pub fn print_refused_opening(printer: &mut Printer, refusal: Refusal)
+    requires { opening_line_named (row_index refusal) < 2 ^ 64 }
+    ensures { Prints printer.old (refused_line refusal (opening_line_named (row_index refusal))) printer.new }
+{
+    let named = match refusal.index() {
+        None => 1,
+        Some(member) => 1 + member,
+    };
+    printer.refusal(refusal, named);
+}
 
 // The lines of an accepted day, of its number, what it returned, and the figures that it wrote for n members: "After a day's daily lines the
 // report prints `total`, then the sums". n stands beside the figures, as in `Printer::rows`.

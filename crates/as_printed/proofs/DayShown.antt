@@ -15,7 +15,7 @@ use Rattle.methodology.specs.Day.{share}
 use Rattle.methodology.specs.Text.{bytes, same, split, stretch, refused_line, rows, column_sum, totals, day_lines, fund_lines}
 use Rattle.methodology.specs.declared.Refusal.{Refusal}
 use Rattle.methodology.specs.RowNumbers.{row_number}
-use Rattle.methodology.proofs.RowLimits.{occurs, at_most_9, row_occurs}
+use Rattle.methodology.proofs.RowLimits.{occurs, at_most_10, row_occurs}
 use Rattle.demand3.specs.Demand3.{Fits64}
 use Rattle.as_printed.specs.AsPrinted.{Line, worded, lines_of, day_numbers, has_fund, DayRead, lines_of_day, AddsUp, Other, FundSays}
 use Rattle.as_printed.proofs.PrintedLines.{Word, Shows, shows_line, shows_then, shows_each}
@@ -124,7 +124,7 @@ fund_ends {D} {M} n figures out head fit few is =
 pub refusal_ends : {D M : ℕ} {days : List ℕ} (met : Refusal) (line : ℕ) → Fits64 line → Ends D M days (refused_line met line)
 unfolding bytes same split
 refusal_ends met line fit =
-    let number : Fits64 (row_number met) = omega (arith, at_most_9 (row_number met) (row_occurs met)) in
+    let number : Fits64 (row_number met) = omega (arith, at_most_10 (row_number met) (row_occurs met)) in
     record {
       lines = worded (bytes "refused") (row_number met ∷ line ∷ []) ∷ [];
       shows = shows_line (bytes "refused") (row_number met ∷ line ∷ []) (refl, refl) (number, (fit, tt));

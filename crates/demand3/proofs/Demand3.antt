@@ -84,8 +84,8 @@ replied asked reply after =
 -- The period that a call was given, and the call in plain values: which of its arguments is which.
 abbrev pub in_plain : (f : Method) → CallOf (compiled f) → Period × Made
 in_plain opening c =
-    let (self, (n, (k, (groups, _)))) = c.arguments in
-    (self, replied (Asked.opening (brought n k groups.now)) c.result [])
+    let (self, (n, (k, (groups, (firsts, (lasts, _)))))) = c.arguments in
+    (self, replied (Asked.opening (brought n k groups.now firsts.now lasts.now)) c.result [])
 in_plain day c =
     let (self, (d, (out, _))) = c.arguments in
     let (_, (_, (after, _))) = c.exit in

@@ -62,8 +62,8 @@ upholds opening =
     record {
       contract = meets_contract (compiled opening) (λ M 𝓤 𝓛 𝓜 𝓡 w. opening-proved.met 𝓤 𝓛 𝓜 𝓡 w);
       clauses =
-          λ {𝓤 = 𝓤} 𝓛 mem run κs (self, (n, (k, (groups, _)))) i.
-          let says = λ (r : _). opening_prop self (brought n k groups.now) (answer_of opening_returned r.outcome) r.period in
+          λ {𝓤 = 𝓤} 𝓛 mem run κs (self, (n, (k, (groups, (firsts, (lasts, _)))))) i.
+          let says = λ (r : _). opening_prop self (brought n k groups.now firsts.now lasts.now) (answer_of opening_returned r.outcome) r.period in
           record { ghost = Unit {0}; requires = λ _. (connectives 𝓤).⊤ₛ; ensures = λ _ r e. fact 𝓤 (no_buffer (says r) i) };
     }
 upholds day =

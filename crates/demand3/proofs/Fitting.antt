@@ -2,8 +2,8 @@
 -- range of an open period, a closing's by that range.
 use mathlib.Core.Path.{◌≡◌, refl, sym, ap, subst, ◌∙◌}
 use mathlib.Core.Bool.{true, false}
-use mathlib.Core.List.{List, [], ◌∷◌, flat_map}
-use Prim.Native.Nat.{ℕ, ◌+◌, ◌*◌, ◌≤◌}
+use mathlib.Core.List.{List, [], ◌∷◌, map, flat_map}
+use Prim.Native.Nat.{ℕ, ◌+◌, ◌*◌, ◌≤◌, ◌<◌}
 use native.Mathlib.Omega.{arith}
 use lib.ListN.{length, get_or, replicate}
 use lib.Seq.{length-take-le}
@@ -16,15 +16,15 @@ use Rattle.std.specs.Prelude.{Option, Some, None, Result, Ok, Err}
 use Rattle.std.specs.List.{AllByRecursion, range_with_len}
 use Rattle.std.proofs.lemmas.List.FromFn.{length-map-range_with_len}
 use Rattle.methodology.specs.RowNumbers.{row_number, row_index}
-use Rattle.methodology.specs.declared.Refusal.TheVariants.{BadOpening, OutOfTurn}
+use Rattle.methodology.specs.declared.Refusal.TheVariants.{OutOfTurn}
 use Rattle.methodology.specs.declared.Opening.{Opening}
-use Rattle.methodology.specs.Account.{no_opening, DayInput}
+use Rattle.methodology.specs.Account.{DayInput}
 use Rattle.methodology.specs.Day.{dailies}
 use Rattle.methodology.specs.Contribution.{counts, funded, unfunded, three}
-use Rattle.methodology.specs.Refusals.{Verdict, clear, is_open, bad_opening, opening_refusal}
+use Rattle.methodology.specs.Refusals.{Verdict, clear, is_open, opening_rows, opening_refusal}
 use Rattle.methodology.specs.Register.{Answer, refused_with, answer_by}
 use Rattle.methodology.proofs.Passed.{passed, either, by_test}
-use Rattle.methodology.proofs.RowLimits.{at_most_9, row_occurs, Few as IndexFew, RowFew, opening_few, day_few, closing_few}
+use Rattle.methodology.proofs.RowLimits.{at_most_10, row_occurs, Few as IndexFew, RowFew, opening_few, day_few, closing_few}
 use Rattle.quotient.specs.Ranges.{greatest_total, Charge}
 use Rattle.validation.specs.Slices.{in_places}
 use Rattle.validation.proofs.OpeningPasses.{opening_leaves}
@@ -40,7 +40,7 @@ use Rattle.period.proofs.Sizing.{Admits, passes_all, total_few, reported_few, wr
 use Rattle.period.proofs.Reach.{sized_in_range}
 use Rattle.demand3.proofs.Covering.{three_wide}
 use Rattle.demand3.specs.Made.{Asked, Meets}
-use Rattle.demand3.specs.Demand3.{Fits64, numbers_in, NarrowOpening, NarrowAccrued, Narrow, Fits, CanBeMade}
+use Rattle.demand3.specs.Demand3.{Fits64, numbers_in, NarrowList, NarrowAccrued, Narrow, Fits, CanBeMade}
 
 -- ---- rows
 
@@ -111,22 +111,33 @@ pub zeros_fit : (count : ℕ) → AllByRecursion Fits64 (replicate count 0)
 zeros_fit count = indexed Fits64 (replicate count 0) (λ i. omega (arith, replicate_at {A = ℕ} count i 0))
 
 none_accrued : NarrowAccrued fresh_period.accrued
-none_accrued = record { last = omega arith; days = omega arith; highest = omega arith; sums = zeros_fit 32; sums_long = refl }
+none_accrued = record { last = omega arith; days = omega arith; highest = omega arith; sums = record { fit = zeros_fit 32; long = refl } }
 
-narrow_places : (o : Opening) → o.n ≤ 32 → o.k ≤ 16 → ((i : ℕ) → get_or o.groups i 0 ≤ 32) → NarrowOpening (in_places o)
-narrow_places o n k group =
+-- a list of numbers up to 32, in its places
+narrow_list : (l : List ℕ) → ((i : ℕ) → i < length l → get_or l i 0 ≤ 32) → NarrowList (map (λ i. get_or l i 0) (range_with_len 0 32))
+narrow_list l few =
+    let all : (i : ℕ) → get_or l i 0 ≤ 32 = at_any (λ x. x ≤ 32) l 0 (omega arith) few in
     record {
-      n = omega arith;
-      k = omega arith;
-      groups = every_map Fits64 (λ i. get_or o.groups i 0) (range_with_len 0 32) (λ i m. omega (arith, group i));
-      groups_long = length-map-range_with_len (λ i. get_or o.groups i 0) 0 32;
+      fit = every_map Fits64 (λ i. get_or l i 0) (range_with_len 0 32) (λ i m. omega (arith, all i));
+      long = length-map-range_with_len (λ i. get_or l i 0) 0 32;
     }
 
-narrow_opened : (o : Opening) → bad_opening o ≡ false → Narrow (opened_period o)
+narrow_opened : (o : Opening) → opening_rows o ≡ clear → Narrow (opened_period o)
 narrow_opened o e =
     let l = opening_leaves o e in
-    let group : (i : ℕ) → get_or o.groups i 0 ≤ 32 = at_any (λ x. x ≤ 32) o.groups 0 (omega arith) (λ i h. l.group_few i (omega (arith, l.groups_long))) in
-    record { held = narrow_places o l.members_few l.scenarios_few group; accrued = none_accrued }
+    record {
+      held =
+          record {
+            n = omega (arith, l.members_few);
+            k = omega (arith, l.scenarios_few);
+            groups = narrow_list o.groups (λ i h. l.group_few i (omega (arith, h, l.groups_long)));
+            firsts =
+                narrow_list o.firsts
+                (λ i h. let place : i < o.n = omega (arith, h, l.firsts_long) in omega (arith, l.in_order i place, l.last_few i place));
+            lasts = narrow_list o.lasts (λ i h. let place : i < o.n = omega (arith, h, l.lasts_long) in omega (arith, l.last_few i place));
+          };
+      accrued = none_accrued;
+    }
 
 narrow_sized : (p : Period) (d : DayInput) → in_range (sized_period p d) ≡ true → Narrow p → Narrow (sized_period p d)
 narrow_sized p d e q =
@@ -138,10 +149,13 @@ narrow_sized p d e q =
             last = omega (arith, r.month);
             days = omega (arith, r.counted, r.month);
             highest = omega (arith, r.bounded);
-            sums = indexed Fits64 (sized_period p d).accrued.sums (λ i. omega (arith, r.sums i, r.counted, r.month));
-            sums_long =
-                by_test (λ (sums : List ℕ). length sums ≡ 32) (counts (total_by p d)) _ p.accrued.sums
-                (λ e. length-map-range_with_len (λ i. get_or p.accrued.sums i 0 + share_at p d i) 0 32) (λ e. q.accrued.sums_long);
+            sums =
+                record {
+                  fit = indexed Fits64 (sized_period p d).accrued.sums (λ i. omega (arith, r.sums i, r.counted, r.month));
+                  long =
+                      by_test (λ (sums : List ℕ). length sums ≡ 32) (counts (total_by p d)) _ p.accrued.sums
+                      (λ e. length-map-range_with_len (λ i. get_or p.accrued.sums i 0 + share_at p d i) 0 32) (λ e. q.accrued.sums.long);
+                };
           };
     }
 
@@ -149,17 +163,19 @@ narrow_closed : (p : Period) → Narrow p → Narrow (closed_period p)
 narrow_closed p q = record { held = q.held; accrued = q.accrued }
 
 pub narrow_fresh : Narrow fresh_period
-narrow_fresh = record { held = narrow_places no_opening (omega arith) (omega arith) (λ i. omega arith); accrued = none_accrued }
+narrow_fresh =
+    let none : NarrowList (map (λ i. get_or [] i 0) (range_with_len 0 32)) = narrow_list [] (λ i h. omega arith) in
+    record { held = record { n = omega arith; k = omega arith; groups = none; firsts = none; lasts = none }; accrued = none_accrued }
 
 -- ---- a call, by what the refusal table says
 
-refused_fits : (number : ℕ) (index : Option ℕ) → number ≤ 9 → IndexFew index → AllByRecursion Fits64 (numbers_in (refused_with number index))
+refused_fits : (number : ℕ) (index : Option ℕ) → number ≤ 10 → IndexFew index → AllByRecursion Fits64 (numbers_in (refused_with number index))
 refused_fits number None h few = (omega arith, tt)
 refused_fits number (Some index) h few = (omega arith, (omega arith, tt))
 
 answer_fits : (x : Verdict) (figures : List ℕ) → RowFew x → (x ≡ clear → AllByRecursion Fits64 figures) → AllByRecursion Fits64 (numbers_in (answer_by x figures))
 answer_fits (Ok _) figures h f = f refl
-answer_fits (Err met) figures h f = refused_fits (row_number met) (row_index met) (at_most_9 _ (row_occurs met)) h
+answer_fits (Err met) figures h f = refused_fits (row_number met) (row_index met) (at_most_10 _ (row_occurs met)) h
 
 -- the outcome that has the answer of a contract
 outcome_by : {A : Type 0} → Verdict → A → Result A Refusal
@@ -179,7 +195,7 @@ fits {p} q (Asked.opening o) said left after (m, none) =
       outcome = outcome_by (opening_row p o) tt;
       of_outcome = m.answer ∙ outcome_says (opening_row p o) opening_returned tt;
       answer = rw m.answer (answer_fits (opening_row p o) [] (opening_row_few p o) (λ e. tt));
-      period = subst Narrow (sym m.period) (either Narrow (opening_row p o) _ p (λ e. narrow_opened o (passed BadOpening (bad_opening o) clear (passed OutOfTurn (is_open (status_of p)) _ e).1).0) q);
+      period = subst Narrow (sym m.period) (either Narrow (opening_row p o) _ p (λ e. narrow_opened o (passed OutOfTurn (is_open (status_of p)) _ e).1) q);
       buffer = λ b. rw none tt;
       long = rw none refl;
     }
@@ -205,10 +221,10 @@ fits {p} q (Asked.closing out) said left after m =
     record {
       outcome = outcome_by x figures;
       of_outcome = m.answer ∙ outcome_says x closing_returned figures;
-      answer = rw m.answer (answer_fits x _ (closing_row_few p (length out)) (λ e. closing_figures_fit (pass e) q.accrued.sums_long));
+      answer = rw m.answer (answer_fits x _ (closing_row_few p (length out)) (λ e. closing_figures_fit (pass e) q.accrued.sums.long));
       period = subst Narrow (sym m.period) (either Narrow x _ p (λ e. narrow_closed p q) q);
-      buffer = λ b. subst (AllByRecursion Fits64) (sym m.buffer) (either (AllByRecursion Fits64) x _ out (λ e. closing_fits (pass e) q.accrued.sums_long) b);
-      long = ap length m.buffer ∙ either (λ (l : List ℕ). length l ≡ length out) x _ out (λ e. closing_long (pass e) q.accrued.sums_long) refl;
+      buffer = λ b. subst (AllByRecursion Fits64) (sym m.buffer) (either (AllByRecursion Fits64) x _ out (λ e. closing_fits (pass e) q.accrued.sums.long) b);
+      long = ap length m.buffer ∙ either (λ (l : List ℕ). length l ≡ length out) x _ out (λ e. closing_long (pass e) q.accrued.sums.long) refl;
     }
 
 -- ---- calls with any arguments can be made

@@ -18,7 +18,8 @@ use Rattle.demand3.specs.Made.{Asked, Returned, figures_of, Made, lent, call_of,
 -- ---- each call
 
 -- "a call is accepted exactly when document 01's register, kept from the calls alone, accepts it, and is otherwise refused by the same
--- number, with its index in rows 5 and 6. Every figure that an accepted call returns or writes is document 01's, worked from that call's
+-- number, with its index in rows 5 and 6", and in row 10 with the member's number: it "holds for 10's member number as for an index"
+-- (document 02, Change 7). "Every figure that an accepted call returns or writes is document 01's, worked from that call's
 -- arguments and the register as the call leaves it." So say `answer` and `buffer` in methodology's Register.antt, with the requests of
 -- document 02 that are in. The period that comes back holds what the register holds, so that a refused call leaves it as it was (demand 1).
 pub record Agrees (g : Register) (c : Made) : Type 0 where
@@ -99,19 +100,23 @@ numbers_in (accepted figures) = figures
 numbers_in (refused number) = number ∷ []
 numbers_in (refused_at number index) = number ∷ index ∷ []
 
--- What the program can hold: numbers of 64 bits, arrays of 32 places. An opening, what days come to, and a period.
+-- What the program can hold: numbers of 64 bits, arrays of 32 places. An array, an opening, what days come to, and a period.
+pub record NarrowList (l : List ℕ) : Type 0 where
+  pub fit : AllByRecursion Fits64 l
+  pub long : length l ≡ 32
+
 pub record NarrowOpening (o : Opening) : Type 0 where
   pub n : Fits64 o.n
   pub k : Fits64 o.k
-  pub groups : AllByRecursion Fits64 o.groups
-  pub groups_long : length o.groups ≡ 32
+  pub groups : NarrowList o.groups
+  pub firsts : NarrowList o.firsts
+  pub lasts : NarrowList o.lasts
 
 pub record NarrowAccrued (a : Accrued) : Type 0 where
   pub last : Fits64 a.last
   pub days : Fits64 a.days
   pub highest : Fits64 a.highest
-  pub sums : AllByRecursion Fits64 a.sums
-  pub sums_long : length a.sums ≡ 32
+  pub sums : NarrowList a.sums
 
 pub record Narrow (p : Period) : Type 0 where
   pub held : NarrowOpening p.held

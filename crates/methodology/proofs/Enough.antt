@@ -16,7 +16,7 @@ use Rattle.methodology.specs.declared.Opening.{Opening}
 use Rattle.methodology.specs.Account.{DayInput}
 use Rattle.methodology.specs.Refusals.{Verdict, clear, is_open, n_outside, k_outside, count_outside, bad_input, bad_output, bad_day_number, day_rows, day_refusal}
 use Rattle.methodology.specs.Register.{Call, Register, start, last_number, refusal, accept, step}
-use Rattle.methodology.specs.Text.{bytes, same, AccountLine, Expected, period, member, day, account, after_end, Read, ends, goes_on, read_period, opened, read_member, read_day, sized, with_account, read_account, read_line}
+use Rattle.methodology.specs.Text.{bytes, same, AccountLine, Expected, period, member, day, account, after_end, Read, ends, goes_on, read_period, opened, read_member, read_day, sized, with_account, with_member, read_account, read_line}
 use Rattle.methodology.proofs.Passed.{inside, passed, either, by_test, number_rises}
 
 -- the most bytes of a good line with its LF, and of a day's lines, which are its day line and its acct lines
@@ -65,7 +65,7 @@ after_opened m (Ok _) o h =
 after_opened m (Err row) o h = tt
 
 after_member : (m l : ℕ) (o : Opening) (i : ℕ) (read : Option (List ℕ)) → l < a_line → Enough (l + 1 + m) (member o) → EnoughAfter m (read_member o i read)
-unfolding read_member
+unfolding read_member with_member
 after_member m l o i None h k = tt
 after_member m l o i (Some ns) h k =
     let groups = o.groups ++ (get_or ns 1 0 ∷ []) in

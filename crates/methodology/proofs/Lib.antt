@@ -3,8 +3,8 @@ pub mod Figures
 pub mod WorkedCalls
 pub mod Passed
 pub mod RowLimits
-pub mod WorkedTexts
 pub mod WorkedLimits
+pub mod WorkedTexts
 pub mod Splits
 pub mod Enough
 pub mod Cut

@@ -17,11 +17,11 @@ use Rattle.methodology.specs.declared.Status.TheVariants.{Open}
 use Rattle.methodology.specs.declared.Refusal.{Refusal}
 use Rattle.methodology.specs.declared.Refusal.TheVariants.{BadOpening, BadLengths, BadLine}
 use Rattle.methodology.specs.declared.Opening.{Opening}
-use Rattle.methodology.specs.Account.{with_groups, DayInput}
+use Rattle.methodology.specs.Account.{DayInput}
 use Rattle.methodology.specs.RowNumbers.{row_index}
 use Rattle.methodology.specs.Refusals.{Verdict, clear, row◌when◌else◌, outside, n_outside, k_outside, count_outside, closing_refusal}
 use Rattle.methodology.specs.Register.{Call, Register, start, refusal, accept, step, returned, written}
-use Rattle.methodology.specs.Text.{LF, bytes, same, onto, split, fields, is_digit, value_from, number_of, also, every_field, numbers_after, bad_bytes, AccountLine, account_of, refused_line, line_named, day_lines, fund_lines, Expected, period, member, day, account, after_end, Read, goes_on, bad, read_period, opened, read_member, read_day, sized, with_account, read_account, read_line, closed, at_end, followed_by, report_from, report_of}
+use Rattle.methodology.specs.Text.{LF, bytes, same, onto, split, fields, is_digit, value_from, number_of, also, every_field, numbers_after, bad_bytes, AccountLine, account_of, refused_line, line_named, day_lines, fund_lines, Expected, period, member, day, account, after_end, Read, goes_on, bad, read_period, opening_line_named, opened, with_member, read_member, read_day, sized, with_account, read_account, read_line, closed, at_end, followed_by, report_from, report_of}
 use Rattle.methodology.specs.Lines.{before}
 use Rattle.methodology.proofs.Passed.{step_clear, by_test}
 use Rattle.methodology.proofs.RowLimits.{Few, RowFew, refusal_few}
@@ -66,7 +66,11 @@ pub closing_clear : (g : Register) → g.status ≡ Open → refusal g (closing_
 unfolding refusal closing_refusal row◌when◌else◌
 closing_clear g is = rw (is, eq-eqb (3 * g.held.n) (3 * g.held.n) refl)
 
--- the line that a refused day names is at most 257 after the day line
+-- the line that a refused opening names is at most 257, and the one that a refused day names at most 257 after the day line
+opening_named_few : (last : ℕ) (member : Option ℕ) → Few member → 257 ≤ last → opening_line_named member ≤ last
+opening_named_few last None few h = omega arith
+opening_named_few last (Some m) few h = omega arith
+
 named_few : (last at : ℕ) (index : Option ℕ) → Few index → at + 257 ≤ last → line_named at index ≤ last
 named_few last at None few h = omega arith
 named_few last at (Some index) few h = omega arith
@@ -199,14 +203,14 @@ module _ (n last : ℕ) where
     by_opened : (x : Verdict) (o : Opening) → refusal start (Call.opening o) ≡ x → RowFew x → Ready (member o) → Gives days (member o) (opened x o)
     unfolding opened followed_by accept
     by_opened (Ok _) o e few r k = a_period o r.0 r.1 e (goes (day (step start (Call.opening o))) k (status_is start (Call.opening o) e))
-    by_opened (Err met) o e few r k = no_period met 1 (omega arith)
+    by_opened (Err met) o e few r k = no_period met (opening_line_named (row_index met)) (opening_named_few last (row_index met) few (omega arith))
 
     by_member : (o : Opening) (read : Option (List ℕ)) → IfRead (Tells (bytes "member") l) read → Ready (member o) → Prints (member o) (read_member o i read)
-    unfolding read_member followed_by bytes same
+    unfolding read_member with_member followed_by bytes same
     by_member o None t r = line_9 _ (member o)
     by_member o (Some ns) t r =
         let P = Gives days (member o) in
-        let o' = with_groups o (o.groups ++ (get_or ns 1 0 ∷ [])) in
+        let o' = with_member o (get_or ns 1 0) (get_or ns 2 0) (get_or ns 3 0) in
         let last_one = by_opened _ o' refl (refusal_few start (Call.opening o')) r in
         so_told (member o) _ (other_word l (bytes "member") days refl t.0)
         (by_test P (eqb (get_or ns 0 0) (length o'.groups)) _ _
@@ -247,7 +251,7 @@ module _ (n last : ℕ) where
     by_line : (e : Expected) → Ready e → Prints e (read_line e i l)
     unfolding read_line followed_by
     by_line period r = absurd r
-    by_line (member o) r = by_member o _ (numbers_tell (bytes "member") 2 l) r
+    by_line (member o) r = by_member o _ (numbers_tell (bytes "member") 4 l) r
     by_line (day g) r =
         by_test (Prints (day g)) (same l (bytes "end")) _ _
         (λ e. so_told (day g) (goes_on [] (after_end g i)) (end_word e) (λ k. goes (after_end g i) k (r, omega arith)))

@@ -1,4 +1,5 @@
--- What a refusal table can say: a row's number is one that occurs, and an index is at most 256, since rows 5 and 6 come after row 4.
+-- What a refusal table can say: a row's number is one that occurs, and an index is at most 256, since rows 5 and 6 come after row 4, and row
+-- 10, whose member has its place, after row 1.
 use mathlib.Core.Path.{◌≡◌, refl}
 use mathlib.Core.Bool.{Bool, true, false, not, ◌||◌, cond}
 use mathlib.Core.List.{List, [], ◌∷◌}
@@ -7,29 +8,31 @@ use native.Mathlib.Omega.{arith}
 use lib.Dec.{eqb}
 use lib.ListN.{length}
 use borrow.Author.Tests.{not-true}
+use Rattle.std.proofs.lemmas.Bool.Decides.{nat_tests}
 use Rattle.std.proofs.lemmas.List.Sums.{prefix_len-le-length}
 use Rattle.numbers.proofs.Tests.{neither}
 use Rattle.methodology.specs.declared.Heading.{Heading}
 use Rattle.methodology.specs.declared.Status.{Status}
 use Rattle.methodology.specs.declared.Refusal.{Refusal}
-use Rattle.methodology.specs.declared.Refusal.TheVariants.{BadOpening, OutOfTurn, BadDayNumber, BadLengths, BadHeading, BadAmount, BadLine}
+use Rattle.methodology.specs.declared.Refusal.TheVariants.{BadOpening, OutOfTurn, BadDayNumber, BadLengths, BadHeading, BadAmount, BadLine, BadPresence}
 use Rattle.std.specs.Prelude.{Option, Some, None, Ok, Err}
-use Rattle.std.proofs.lemmas.List.FromFn.{length-map-range_with_len}
+use Rattle.std.proofs.lemmas.List.FromFn.{length-range_with_len, length-map-range_with_len}
 use Rattle.methodology.specs.declared.Opening.{Opening}
-use Rattle.methodology.specs.Account.{DayInput, accounts, nobody}
+use Rattle.methodology.specs.Account.{members, first_day, last_day, DayInput, accounts, nobody}
 use Rattle.methodology.specs.RowNumbers.{row_number, row_index}
-use Rattle.methodology.specs.Refusals.{Verdict, clear, row◌when◌else◌, outside, count_outside, opening_refusal, bad_input, bad_heading, first_bad_heading, bad_amount, account_rows, day_rows, day_refusal, closing_refusal}
+use Rattle.methodology.specs.Refusals.{Verdict, clear, row◌when◌else◌, outside, count_outside, bad_opening, bad_presence, opening_rows, opening_refusal, bad_input, bad_heading, first_bad_heading, bad_amount, account_rows, day_rows, day_refusal, closing_refusal}
 use Rattle.methodology.specs.Register.{Call, Register, last_number, refusal}
 use Rattle.methodology.proofs.Passed.{inside}
 
--- the numbers that occur: 1 to 9, as document 01's table has them, but for 7 and 8, which document 02's Changes 4 and 2 take away
+-- the numbers that occur: 1 to 10, as document 01's table has them with that of Change 7, but for 7 and 8, which document 02's Changes 4 and 2
+-- take away
 abbrev pub occurs : (number : ℕ) → Bool
-occurs number = not (outside 1 9 number || eqb number 7 || eqb number 8)
+occurs number = not (outside 1 10 number || eqb number 7 || eqb number 8)
 
-pub at_most_9 : (number : ℕ) → occurs number ≡ true → number ≤ 9
-at_most_9 number h =
+pub at_most_10 : (number : ℕ) → occurs number ≡ true → number ≤ 10
+at_most_10 number h =
     let (but_8, _) = neither _ (eqb number 8) (not-true _ h) in
-    (inside 1 9 number (neither (outside 1 9 number) (eqb number 7) but_8).0).1
+    (inside 1 10 number (neither (outside 1 10 number) (eqb number 7) but_8).0).1
 
 pub row_occurs : (met : Refusal) → occurs (row_number met) ≡ true
 row_occurs BadOpening = refl
@@ -39,6 +42,7 @@ row_occurs BadLengths = refl
 row_occurs (BadHeading index) = refl
 row_occurs (BadAmount index) = refl
 row_occurs BadLine = refl
+row_occurs (BadPresence member) = refl
 
 -- an index, where there is one, is at most 256
 abbrev pub Few : (index : Option ℕ) → Type 0
@@ -51,12 +55,12 @@ RowFew (Err met) = Few (row_index met)
 
 -- ---- an index
 
-pub bad_heading_le : (n : ℕ) (prev : Heading) (hs : List Heading) → first_bad_heading n prev hs ≤ length hs
+pub bad_heading_le : (o : Opening) (number : ℕ) (prev : Heading) (hs : List Heading) → first_bad_heading o number prev hs ≤ length hs
 unfolding first_bad_heading
-bad_heading_le n prev [] = omega arith
-bad_heading_le n prev (h ∷ hs) = by (bad_heading n prev h) (bad_heading_le n h hs)
+bad_heading_le o number prev [] = omega arith
+bad_heading_le o number prev (h ∷ hs) = by (bad_heading o number prev h) (bad_heading_le o number h hs)
   where
-    by : (t : Bool) → first_bad_heading n h hs ≤ length hs → cond t 0 (suc (first_bad_heading n h hs)) ≤ suc (length hs)
+    by : (t : Bool) → first_bad_heading o number h hs ≤ length hs → cond t 0 (suc (first_bad_heading o number h hs)) ≤ suc (length hs)
     by true l = omega arith
     by false l = omega arith
 
@@ -74,9 +78,21 @@ when_few met false rest h f = f refl
 
 -- ---- the tables
 
+members_few : (o : Opening) → bad_opening o ≡ false → o.n ≤ 32
+unfolding bad_opening
+members_few o e = grind (arith, nat_tests)
+
+-- a bad member has a number up to n
+pub opening_rows_few : (o : Opening) → RowFew (opening_rows o)
+unfolding opening_rows
+opening_rows_few o =
+    when_few BadOpening _ _ tt
+    (λ e. when_few (BadPresence _) _ clear
+    (omega (arith, members_few o e, prefix_len-le-length (λ m. not (bad_presence (first_day o m) (last_day o m))) (members o.n), length-range_with_len 1 o.n)) (λ f. tt))
+
 pub opening_few : (s : Status) (o : Opening) → RowFew (opening_refusal s o)
 unfolding opening_refusal
-opening_few s o = when_few OutOfTurn _ _ tt (λ e. when_few BadOpening _ clear tt (λ e. tt))
+opening_few s o = when_few OutOfTurn _ _ tt (λ e. opening_rows_few o)
 
 count_few : (o : Opening) (d : DayInput) → bad_input o d ≡ false → length d.headings ≤ 256
 count_few o d e =
@@ -89,7 +105,7 @@ count_few o d e =
 account_rows_few : (o : Opening) (d : DayInput) → length d.headings ≤ 256 → RowFew (account_rows o d)
 unfolding account_rows
 account_rows_few o d few =
-    when_few (BadHeading _) _ _ (omega (arith, bad_heading_le o.n nobody d.headings))
+    when_few (BadHeading _) _ _ (omega (arith, bad_heading_le o d.terms.number nobody d.headings))
     (λ e. when_few (BadAmount _) _ clear (omega (arith, prefix_len-le-length (λ a. not (bad_amount a)) (accounts o.k d), accounts_long o.k d)) (λ f. tt))
 
 -- whichever of rows 3 and 4 stands first

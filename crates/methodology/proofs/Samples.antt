@@ -10,15 +10,17 @@ use Rattle.numbers.specs.Fractions.{Σᶠ}
 use Rattle.numbers.specs.Rounding.{ceil_div, round_div}
 use Rattle.methodology.specs.declared.Heading.{Heading}
 use Rattle.methodology.specs.declared.Opening.{Opening}
-use Rattle.methodology.specs.Account.{DayInput, account_at, accounts, decrease, eul_of, eul_under, largest_decrease, own_eul}
+use Rattle.methodology.specs.Account.{present, DayInput, account_at, accounts, decrease, eul_of, eul_under, largest_decrease, own_eul}
 use Rattle.methodology.specs.Member.{accounts_of, house_eul, half_of_clients, two_largest_of_r, part_b, part_c, member_eul, member_under, member_own, loss}
 use Rattle.methodology.specs.Day.{total, group_of, group_sum, own_max_eul, share, value, reserve, estimate, five, dailies}
 use Rattle.methodology.specs.Contribution.{reported_max_eul, highest, counted, sum_of_shares, charge, raw, funded, unfunded, exact_charge, shortfall, allowance, three, contributions, total_funded}
 use Rattle.methodology.specs.Refusals.{
   row◌when◌else◌,
   bad_opening,
+  opening_rows,
   opening_refusal,
   bad_day_number,
+  passed_over,
   bad_heading,
   first_bad_heading,
   last_missing,
@@ -32,7 +34,7 @@ use Rattle.methodology.specs.Register.{Register, Call, opening, day, closing, An
 
 -- Who unfolds this unfolds every definition on its line, so that the examples compute.
 unfoldable pub computed : Unit {0}
-unfolding flat_map insert descending Σ Σℤ greatest Σᶠ ceil_div round_div account_at accounts decrease eul_of eul_under largest_decrease own_eul accounts_of house_eul half_of_clients two_largest_of_r part_b part_c member_eul member_under member_own loss total group_of group_sum own_max_eul share value reserve estimate five dailies reported_max_eul highest counted sum_of_shares charge raw funded unfunded exact_charge shortfall allowance three contributions total_funded row◌when◌else◌ bad_opening opening_refusal bad_day_number bad_heading first_bad_heading last_missing bad_amount account_rows day_rows day_refusal closing_refusal refusal accept step returned written answer buffer
+unfolding flat_map insert descending Σ Σℤ greatest Σᶠ ceil_div round_div account_at accounts decrease eul_of eul_under largest_decrease own_eul accounts_of house_eul half_of_clients two_largest_of_r part_b part_c member_eul member_under member_own loss total group_of group_sum own_max_eul share value reserve estimate five dailies reported_max_eul highest counted sum_of_shares charge raw funded unfunded exact_charge shortfall allowance three contributions total_funded row◌when◌else◌ present bad_opening opening_rows opening_refusal bad_day_number passed_over bad_heading first_bad_heading last_missing bad_amount account_rows day_rows day_refusal closing_refusal refusal accept step returned written answer buffer
 computed = tt
 
 -- "Kinds: H (0) house; R (1) [..]; A (2) [..]; U (3) [..]": document 01's numbers, and not the definitions', which the examples hold.
@@ -99,12 +101,16 @@ day_of number lines =
       extras = map (λ l. l.extra) lines;
     }
 
--- what an opening brings, and the call
+-- what an opening brings, and the call, with everybody present on all days
 abbrev pub opening_of : (n k : ℕ) → (groups : List ℕ) → Opening
-opening_of n k groups = record { n = n; k = k; groups = groups }
+opening_of n k groups = record { n = n; k = k; groups = groups; firsts = replicate n 1; lasts = replicate n 31 }
 
 abbrev pub brings : (n k : ℕ) → (groups : List ℕ) → Call
 brings n k groups = opening (opening_of n k groups)
+
+-- the call of n members in no group under one scenario, with their first and last days
+abbrev pub brings_days : (n : ℕ) → (firsts lasts : List ℕ) → Call
+brings_days n firsts lasts = opening (record { n = n; k = 1; groups = replicate n 0; firsts = firsts; lasts = lasts })
 
 -- a call with what it must answer and leave in its buffer
 pub record Exchange : Type 0 where

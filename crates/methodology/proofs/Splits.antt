@@ -64,9 +64,9 @@ pub period_line_lem : (i : ℕ) (s : List ℕ) → report_from i (split LF s) pe
 unfolding read_period read_line at_end
 period_line_lem i s = by_reading i s period (numbers_after (bytes "period") 2) (read_period i) refl refl (λ h. refl)
 
-pub member_line_lem : (o : Opening) (i : ℕ) (s : List ℕ) → report_from i (split LF s) (member o) ≡ followed_by (read_member o i (line_read (numbers_after (bytes "member") 2) s)) (report_from (i + 1) (split LF (after LF s)))
+pub member_line_lem : (o : Opening) (i : ℕ) (s : List ℕ) → report_from i (split LF s) (member o) ≡ followed_by (read_member o i (line_read (numbers_after (bytes "member") 4) s)) (report_from (i + 1) (split LF (after LF s)))
 unfolding read_member read_line at_end
-member_line_lem o i s = by_reading i s (member o) (numbers_after (bytes "member") 2) (read_member o i) refl refl (λ h. refl)
+member_line_lem o i s = by_reading i s (member o) (numbers_after (bytes "member") 4) (read_member o i) refl refl (λ h. refl)
 
 -- ---- among the days
 

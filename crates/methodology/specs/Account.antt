@@ -1,6 +1,6 @@
 -- Document 01, "From an account to a member", first half: a period's members and scenarios, a day's accounts, and an account's EUL;
--- 001, 6.1.1(2) to (4).
-use Rattle.std.specs.Prelude.{List, [], map, ℕ, ◌+◌, ◌*◌, ℤ, pos, ◌+ℤ◌, ◌-ℤ◌, length, get_or, take, drop}
+-- 001, 6.1.1(2) to (4). By document 02's Change 7 a member is present from its first day to its last.
+use Rattle.std.specs.Prelude.{Bool, ◌&&◌, List, [], map, ℕ, ◌+◌, ◌-◌, ◌*◌, leb, ℤ, pos, ◌+ℤ◌, ◌-ℤ◌, length, get_or, take, drop}
 use Rattle.std.specs.List.{range_with_len}
 use Rattle.numbers.specs.Signed.{◌⁺}
 use Rattle.numbers.specs.Sums.{greatest}
@@ -9,19 +9,32 @@ use Rattle.methodology.specs.declared.DayTerms.{DayTerms}
 use Rattle.methodology.specs.declared.Heading.{Heading}
 
 -- What an opening brings is `Opening`, declared in src/lib.rt: "A period has n members, numbered 1 to n (1 to 32), and k stress scenarios (1
--- to 16). Each member has a group number, 0 to 32." In a definition its groups are a list of any length, as a call brings it.
+-- to 16). Each member has a group number, 0 to 32." By Change 7 it "now takes a first and a last day for each member". In a definition its
+-- groups, first days and last days are lists of any length, as a call brings them.
 
--- the same opening, with other groups
-abbrev pub with_groups : Opening → (groups : List ℕ) → Opening
-with_groups o groups = record { n = o.n; k = o.k; groups = groups }
+-- the same opening, with what f makes of each of its lists
+abbrev pub with_each_list : Opening → (f : List ℕ → List ℕ) → Opening
+with_each_list o f = record { n = o.n; k = o.k; groups = f o.groups; firsts = f o.firsts; lasts = f o.lasts }
 
 -- none: what is held before the first
 abbrev pub no_opening : Opening
-no_opening = record { n = 0; k = 0; groups = [] }
+no_opening = record { n = 0; k = 0; groups = []; firsts = []; lasts = [] }
 
 -- the members, 1 to n
 abbrev pub members : (n : ℕ) → List ℕ
 members n = range_with_len 1 n
+
+-- the first and the last day of member m; member 1's are the first of their lists
+abbrev pub first_day : Opening → (m : ℕ) → ℕ
+first_day o m = get_or o.firsts (m - 1) 0
+
+abbrev pub last_day : Opening → (m : ℕ) → ℕ
+last_day o m = get_or o.lasts (m - 1) 0
+
+-- Whether member m is present on the day with this number: from its first day to its last, both among them. "On other days it has no
+-- accounts, losses or shares" (Change 7): row 5 of the refusal table leaves it no account, and from none come no loss and no share.
+unfoldable pub present : Opening → (number m : ℕ) → Bool
+present o number m = leb (first_day o m) number && leb number (last_day o m)
 
 -- the stress scenarios, 1 to k
 abbrev pub scenarios : (k : ℕ) → List ℕ

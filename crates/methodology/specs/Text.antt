@@ -1,5 +1,6 @@
 -- Document 01, "The month's text": for any bytes, the bytes of the report. What is read makes calls, and the register answers them. By
--- document 02's Change 1 a total stands under each accepted day; by its Change 2 a month may have no day.
+-- document 02's Change 1 a total stands under each accepted day; by its Change 2 a month may have no day; by its Change 7 a member line has a
+-- first and a last day.
 use Rattle.std.specs.Prelude.{Bool, true, false, not, ◌&&◌, ◌||◌, cond, ℕ, zero, suc, ◌+◌, ◌-◌, ◌*◌, ◌/◌, ◌%◌, ltb, eqb, ℤ, pos, neg_ℤ, length, get_or, take, drop, Ok, Err}
 use mathlib.Core.List.{List, [], ◌∷◌, ◌++◌, flat_map}
 use Rattle.std.specs.Prelude.{Option, None, Some}
@@ -10,7 +11,7 @@ use Rattle.numbers.specs.Sums.{Σ}
 use Rattle.methodology.specs.declared.Refusal.{Refusal}
 use Rattle.methodology.specs.declared.Refusal.TheVariants.{BadOpening, BadLengths, BadLine}
 use Rattle.methodology.specs.declared.Opening.{Opening}
-use Rattle.methodology.specs.Account.{with_groups, DayInput, no_accounts, members, kind_h, kind_r, kind_a, kind_u}
+use Rattle.methodology.specs.Account.{DayInput, no_accounts, members, kind_h, kind_r, kind_a, kind_u}
 use Rattle.methodology.specs.RowNumbers.{row_number, row_index}
 use Rattle.methodology.specs.Refusals.{Verdict, outside, n_outside, k_outside, count_outside}
 use Rattle.methodology.specs.Register.{Call, Register, start, refusal, step, returned, written}
@@ -181,7 +182,7 @@ fund_lines n answer out = printed (bytes "fund") answer ++ rows (bytes "contribu
 pub data Expected : Type 0 where
   -- the period line
   period : Expected
-  -- a member's line, after those whose groups are held
+  -- a member's line, after those whose numbers are held
   member : (o : Opening) → Expected
   -- a day line or the end line
   day : (g : Register) → Expected
@@ -205,18 +206,34 @@ read_period i None = bad i
 read_period i (Some ns) =
     let n = get_or ns 0 0 in
     let k = get_or ns 1 0 in
-    cond (n_outside n || k_outside k) (ends (refused_line BadOpening i)) (goes_on [] (member (record { n = n; k = k; groups = [] })))
+    cond (n_outside n || k_outside k) (ends (refused_line BadOpening i)) (goes_on [] (member (record { n = n; k = k; groups = []; firsts = []; lasts = [] })))
 
--- "a call is made after its lines are read". "The line is the period line for 1", which is line 1.
+-- "The line is the period line for 1", which is line 1, and for 10 "that member's line" (Change 7): member 1's follows the period line.
+abbrev pub opening_line_named : (member : Option ℕ) → ℕ
+opening_line_named None = 1
+opening_line_named (Some m) = 1 + m
+
+-- "a call is made after its lines are read"
 unfoldable pub opened : Verdict → Opening → Read
 opened (Ok _) o = goes_on [] (day (step start (Call.opening o)))
-opened (Err row) o = ends (refused_line row 1)
+opened (Err row) o = ends (refused_line row (opening_line_named (row_index row)))
+
+-- the opening with a member more: "the member line gets both as its last fields" (Change 7), the first day and the last
+unfoldable pub with_member : Opening → (group first last : ℕ) → Opening
+with_member o group first last =
+    record {
+      n = o.n;
+      k = o.k;
+      groups = o.groups ++ (group ∷ []);
+      firsts = o.firsts ++ (first ∷ []);
+      lasts = o.lasts ++ (last ∷ []);
+    }
 
 -- "Member lines run from 1 to n."
 unfoldable pub read_member : Opening → (line : ℕ) → Option (List ℕ) → Read
 read_member o i None = bad i
 read_member o i (Some ns) =
-    let o' = with_groups o (o.groups ++ (get_or ns 1 0 ∷ [])) in
+    let o' = with_member o (get_or ns 1 0) (get_or ns 2 0) (get_or ns 3 0) in
     cond (eqb (get_or ns 0 0) (length o'.groups))
     (cond (eqb (length o'.groups) o.n) (opened (refusal start (Call.opening o')) o') (goes_on [] (member o')))
     (bad i)
@@ -263,7 +280,7 @@ read_account g d at count used i (Some a) =
 -- line has one field, its word.
 unfoldable pub read_line : Expected → (number : ℕ) → (line : List ℕ) → Read
 read_line period i l = read_period i (numbers_after (bytes "period") 2 l)
-read_line (member o) i l = read_member o i (numbers_after (bytes "member") 2 l)
+read_line (member o) i l = read_member o i (numbers_after (bytes "member") 4 l)
 read_line (day g) i l = cond (same l (bytes "end")) (goes_on [] (after_end g i)) (read_day g i (numbers_after (bytes "day") 2 l))
 read_line (account g d at count used) i l =
     let now = used + length l + 1 in

@@ -5,13 +5,16 @@ ghost use Rattle.std.specs.Prelude.{◌≡◌};
 ghost use Rattle.methodology.specs.RowNumbers.{row_number, row_index};
 
 // What an opening brings. "A period has n members, numbered 1 to n (1 to 32), and k stress scenarios (1 to 16). Each member has a group
-// number, 0 to 32." In a call its groups are a list of any length; a period keeps them in 32 places, with 0 past the last: no call can fail, so
-// nothing takes memory. The limits are no part of the type, since the definitions share it and take what row 1 refuses: who needs one asks for it.
+// number, 0 to 32", and "a first and a last day" (document 02, Change 7). In a call each of these is a list of any length; a period keeps it in
+// 32 places, with 0 past the last: no call can fail, so nothing takes memory. The limits are no part of the type, since the definitions share
+// it and take what rows 1 and 10 refuse: who needs one asks for it.
 #[derive(Clone, Copy, Debug, PartialEq, Eq)]
 pub struct Opening {
     pub n: u64,
     pub k: u64,
     pub groups: [u64; 32],
+    pub firsts: [u64; 32],
+    pub lasts: [u64; 32],
 }
 
 // What a day brings beside its accounts.
@@ -69,7 +72,8 @@ pub enum Status {
     Closed,
 }
 
-// The rows of the refusal table, of which the last is met by a text alone. Rows 5 and 6 have the index of the first bad account.
+// The rows of the refusal table, of which 9 is met by a text alone. Rows 5 and 6 have the index of the first bad account, row 10 the number of
+// the first bad member.
 #[derive(Clone, Copy, Debug, PartialEq, Eq)]
 pub enum Refusal {
     BadOpening,
@@ -79,6 +83,7 @@ pub enum Refusal {
     BadHeading(u64),
     BadAmount(u64),
     BadLine,
+    BadPresence(u64),
 }
 
 impl Refusal {
@@ -94,15 +99,16 @@ impl Refusal {
             Refusal::BadHeading(_) => 5,
             Refusal::BadAmount(_) => 6,
             Refusal::BadLine => 9,
+            Refusal::BadPresence(_) => 10,
         }
     }
 
-    // The index that the row has beside it, if it has one.
+    // The index that the row has beside it, if it has one; in row 10 the member's number.
     pub fn index(self) -> Option<u64>
         ensures { result ≡ row_index self }
     {
         match self {
-            Refusal::BadHeading(index) | Refusal::BadAmount(index) => Some(index),
+            Refusal::BadHeading(index) | Refusal::BadAmount(index) | Refusal::BadPresence(index) => Some(index),
             _ => None,
         }
     }

@@ -230,9 +230,14 @@ module _ {A : Type 0} (p : A → Bool) where
   none_any [] h = refl
   none_any (x ∷ xs) h = rw (h x (here refl)) (none_any xs (λ y m. h y (there m)))
 
-  some_any : {x : A} {xs : List A} → x ∈ xs → p x ≡ true → list_any p xs ≡ true
+  pub some_any : {x : A} {xs : List A} → x ∈ xs → p x ≡ true → list_any p xs ≡ true
   some_any (here e) h = rw (ap p (sym e) ∙ h)
   some_any (there {x = y} m) h = rw (some_any m h) (or-true (p y))
+
+-- two tests that agree on every element
+pub any_eq : {A : Type 0} (p q : A → Bool) (xs : List A) → ((x : A) → x ∈ xs → p x ≡ q x) → list_any p xs ≡ list_any q xs
+any_eq p q [] h = refl
+any_eq p q (x ∷ xs) h = rw (h x (here refl), any_eq p q xs (λ y m. h y (there m)))
 
 -- the search as a loop: no element before i passes
 pub record NoneBefore {A : Type 0} (p : A → Bool) (xs : List A) (d : A) (i : ℕ) : Type 0 where

@@ -1,6 +1,6 @@
 -- What a period in range has in its fields, and what rows 2 and 4 leave of a day or a closing.
-use mathlib.Core.Path.{◌≡◌}
-use mathlib.Core.Bool.{Bool, true, false, not, cond}
+use mathlib.Core.Path.{◌≡◌, refl, sym}
+use mathlib.Core.Bool.{Bool, true, false, not, cond, true≢false}
 use mathlib.Core.List.{List}
 use Prim.Native.Nat.{ℕ, ◌*◌, ◌≤◌, ◌<◌}
 use native.Mathlib.Omega.{arith}
@@ -8,7 +8,9 @@ use lib.Dec.{leb, ltb, eqb}
 use lib.ListN.{length, get_or, length-take}
 use lib.Seq.{get_or-take}
 use borrow.Author.Tests.{leb-true, ltb-false, le-ltb, lt-ltb, eqb-true, not-true, not-false}
+use Rattle.std.specs.Prelude.{Ok, Err}
 use Rattle.std.specs.List.{list_any}
+use Rattle.std.specs.Result.{is_ok}
 use Rattle.numbers.proofs.Tests.{both}
 use Rattle.numbers.proofs.Lists.{mem_at, at_any, any_false}
 use Rattle.methodology.specs.declared.Opening.{Opening}
@@ -16,7 +18,7 @@ use Rattle.methodology.specs.declared.Refusal.TheVariants.{OutOfTurn, BadLengths
 use Rattle.methodology.specs.declared.Status.{Status}
 use Rattle.methodology.specs.declared.Status.TheVariants.{Closed}
 use Rattle.methodology.specs.Day.{scale}
-use Rattle.methodology.specs.Refusals.{clear, is_open, bad_opening, closing_refusal}
+use Rattle.methodology.specs.Refusals.{Verdict, clear, row◌when◌else◌, is_open, bad_opening, opening_rows, closing_refusal}
 use Rattle.methodology.proofs.Passed.{passed}
 use Rattle.quotient.specs.Ranges.{greatest_total, Charge}
 use Rattle.validation.specs.Passing.{Opened}
@@ -28,13 +30,18 @@ pub record Ranged (p : Period) : Type 0 where
   pub month : p.accrued.last ≤ 31
   pub counted : p.accrued.days ≤ p.accrued.last
   pub bounded : p.accrued.highest ≤ greatest_total
-  pub opened : bad_opening (held_by p) ≡ false
+  pub opened : opening_rows (held_by p) ≡ clear
   pub sums : (i : ℕ) → get_or p.accrued.sums i 0 ≤ p.accrued.days * scale
 
 -- row 1 is met by more members than there are places
-pub many_members : (o : Opening) → 32 < o.n → bad_opening o ≡ true
-unfolding bad_opening
-many_members o h = rw (le-ltb o.n 1 (omega arith), lt-ltb 32 o.n h)
+pub many_members : (o : Opening) → 32 < o.n → is_ok (opening_rows o) ≡ false
+unfolding opening_rows bad_opening row◌when◌else◌
+many_members o h = rw (le-ltb o.n 1 (omega arith), lt-ltb 32 o.n h) refl
+
+-- a table that lets a call pass
+is_passed : (x : Verdict) → is_ok x ≡ true → x ≡ clear
+is_passed (Ok _) e = refl
+is_passed (Err met) e = absurd (true≢false (sym e))
 
 -- no number of a list is above `most`
 none_above : (most : ℕ) (l : List ℕ) → list_any (ltb most) l ≡ false → (i : ℕ) → get_or l i 0 ≤ most
@@ -44,14 +51,14 @@ pub ranged : (p : Period) → in_range p ≡ true → Ranged p
 unfolding in_range
 ranged p e =
     let (r₄, e₅) = both _ (not (list_any (ltb (p.accrued.days * scale)) p.accrued.sums)) e in
-    let (r₃, e₄) = both _ (not (bad_opening (held_by p))) r₄ in
+    let (r₃, e₄) = both _ (is_ok (opening_rows (held_by p))) r₄ in
     let (r₂, e₃) = both _ (leb p.accrued.highest greatest_total) r₃ in
     let (e₁, e₂) = both _ (leb p.accrued.days p.accrued.last) r₂ in
     record {
       month = leb-true _ _ e₁;
       counted = leb-true _ _ e₂;
       bounded = leb-true _ _ e₃;
-      opened = not-true _ e₄;
+      opened = is_passed _ e₄;
       sums = none_above (p.accrued.days * scale) p.accrued.sums (not-true _ e₅);
     }
 

@@ -2,22 +2,23 @@
 -- By the last call: an opening sets every field, a day that the table lets pass keeps each within its limit, a refusal leaves all.
 use mathlib.Core.Path.{◌≡◌, refl, sym, subst, ◌∙◌}
 use mathlib.Core.Bool.{Bool, true, false, cond, true≢false}
+use mathlib.Core.List.{List, map}
 use Prim.Native.Nat.{ℕ, ◌+◌, ◌*◌, ◌≤◌, ◌<◌}
 use native.Mathlib.Omega.{arith}
 use lib.Dec.{ltb}
-use lib.ListN.{length, get_or}
+use lib.ListN.{length, get_or, take}
 use borrow.Author.Tests.{le-leb, le-ltb, ltb-true}
 use Rattle.std.specs.List.{list_any, range_with_len}
 use Rattle.std.proofs.lemmas.List.FromFn.{take-map-range_with_len, fill_by_all}
 use Rattle.numbers.proofs.Lists.{by_index, any_map, none_any}
-use Rattle.methodology.specs.declared.Refusal.TheVariants.{OutOfTurn, BadOpening}
+use Rattle.methodology.specs.declared.Refusal.TheVariants.{OutOfTurn}
 use Rattle.methodology.specs.declared.Status.{Status}
 use Rattle.methodology.specs.declared.Status.TheVariants.{Fresh, Open, Closed}
 use Rattle.methodology.specs.declared.Opening.{Opening}
 use Rattle.methodology.specs.Account.{DayInput}
 use Rattle.methodology.specs.Day.{scale}
 use Rattle.methodology.specs.Contribution.{counts}
-use Rattle.methodology.specs.Refusals.{clear, is_open, bad_opening, opening_refusal}
+use Rattle.methodology.specs.Refusals.{clear, is_open, opening_rows, opening_refusal}
 use Rattle.methodology.proofs.Passed.{passed, either, number_rises}
 use Rattle.quotient.specs.Ranges.{greatest_total}
 use Rattle.fund.specs.Shares.{plus_each}
@@ -28,24 +29,27 @@ use Rattle.period.specs.Calls.{fresh_period, held_by, in_range, status_of, openi
 use Rattle.period.specs.Follows.{Reached, fresh, by_opening, by_day, by_closing}
 use Rattle.period.proofs.Sizing.{Admits, passes_all, reported_few, share_few}
 
--- an opening
-pub groups_back : (o : Opening) → length o.groups ≡ o.n → o.n ≤ 32 → (held_by (opened_period o)).groups ≡ o.groups
-groups_back o long few =
-    take-map-range_with_len (λ i. get_or o.groups i 0) 0 32 o.n few ∙ sym (fill_by_all _ o.groups o.n 0 long (λ i h. refl))
+-- an opening: a list of n numbers is as it was, put in its places and taken from them
+list_back : (n : ℕ) (l : List ℕ) → length l ≡ n → n ≤ 32 → take n (map (λ i. get_or l i 0) (range_with_len 0 32)) ≡ l
+list_back n l long few = take-map-range_with_len (λ i. get_or l i 0) 0 32 n few ∙ sym (fill_by_all _ l n 0 long (λ i h. refl))
 
--- row 1 lets it pass
-opening_good : (p : Period) (o : Opening) → opening_row p o ≡ clear → bad_opening o ≡ false
+pub opening_back : (o : Opening) → length o.groups ≡ o.n → length o.firsts ≡ o.n → length o.lasts ≡ o.n → o.n ≤ 32 → held_by (opened_period o) ≡ o
+opening_back o groups firsts lasts few =
+    rw (list_back o.n o.groups groups few, list_back o.n o.firsts firsts few, list_back o.n o.lasts lasts few) refl
+
+-- rows 1 and 10 let it pass
+opening_good : (p : Period) (o : Opening) → opening_row p o ≡ clear → opening_rows o ≡ clear
 unfolding opening_row opening_refusal
-opening_good p o e = (passed BadOpening (bad_opening o) clear (passed OutOfTurn (is_open (status_of p)) _ e).1).0
+opening_good p o e = (passed OutOfTurn (is_open (status_of p)) _ e).1
 
 pub opening_passed : (p : Period) (o : Opening) → opening_row p o ≡ clear → Opened o
 opening_passed p o e = opening_leaves o (opening_good p o e)
 
-opened_in_range : (o : Opening) → bad_opening o ≡ false → in_range (opened_period o) ≡ true
+opened_in_range : (o : Opening) → opening_rows o ≡ clear → in_range (opened_period o) ≡ true
 unfolding in_range
 opened_in_range o e =
     let l = opening_leaves o e in
-    rw (groups_back o l.groups_long l.members_few, e)
+    rw (opening_back o l.groups_long l.firsts_long l.lasts_long l.members_few, e) refl
 
 -- a day that the table lets pass
 module _ (p : Period) (d : DayInput) {room : ℕ} (s : Admits p d room) where

@@ -8,13 +8,13 @@ use lib.ListN.{length}
 use Rattle.std.specs.Prelude.{Ok, Err}
 use Rattle.numbers.specs.Sums.{Σ}
 use Rattle.methodology.specs.declared.Refusal.{Refusal}
-use Rattle.methodology.specs.declared.Refusal.TheVariants.{OutOfTurn, BadOpening, BadLengths}
+use Rattle.methodology.specs.declared.Refusal.TheVariants.{OutOfTurn, BadLengths}
 use Rattle.methodology.specs.declared.Status.TheVariants.{Open}
 use Rattle.methodology.specs.declared.Opening.{Opening}
-use Rattle.methodology.specs.Account.{with_groups, DayInput}
+use Rattle.methodology.specs.Account.{DayInput}
 use Rattle.methodology.specs.Day.{dailies}
 use Rattle.methodology.specs.Contribution.{funded, three}
-use Rattle.methodology.specs.Refusals.{Verdict, row◌when◌else◌, clear, is_open, bad_opening, bad_output, opening_refusal, day_rows, day_refusal, closing_refusal}
+use Rattle.methodology.specs.Refusals.{Verdict, row◌when◌else◌, clear, is_open, bad_output, opening_rows, opening_refusal, day_rows, day_refusal, closing_refusal}
 use Rattle.methodology.specs.Register.{if_accepted, accepted, refused_by}
 use Rattle.validation.specs.Slices.{in_places}
 use Rattle.period.specs.declared.Period.{Period}
@@ -30,15 +30,16 @@ module _ (p : Period) (o : Opening) where
   while_open e = opening_refused OutOfTurn (rw e)
 
   module _ (closed : is_open (status_of p) ≡ false) where
-    pub out_of_limits : bad_opening o ≡ true → OpeningMeets p o (refused_by BadOpening) p
+    row_is : opening_row p o ≡ opening_rows o
     unfolding opening_row opening_refusal row◌when◌else◌
-    out_of_limits e = opening_refused BadOpening (rw (closed, e))
+    row_is = rw closed refl
 
-    pub opening_accepted : bad_opening o ≡ false → (all : List ℕ) → all ≡ (in_places o).groups
-        → OpeningMeets p o (accepted []) (without_days Open (with_groups o all))
-    unfolding opening_row opening_refusal row◌when◌else◌
-    opening_accepted e all q =
-        let none : opening_row p o ≡ clear = rw (closed, e) in
+    pub row_met : (met : Refusal) → opening_rows o ≡ Err met → OpeningMeets p o (refused_by met) p
+    row_met met e = opening_refused met (row_is ∙ e)
+
+    pub opening_accepted : opening_rows o ≡ clear → {held : Opening} → held ≡ in_places o → OpeningMeets p o (accepted []) (without_days Open held)
+    opening_accepted e q =
+        let none : opening_row p o ≡ clear = row_is ∙ e in
         record { answer = rw none; period = rw (none, q) }
 
 -- a closing

@@ -16,7 +16,7 @@ use Rattle.numbers.proofs.Lists.{mem_range, range_suc, map_eq}
 use Rattle.std.specs.Prelude.{Ok, Err}
 use Rattle.std.specs.List.{range_with_len}
 use Rattle.methodology.specs.declared.Opening.{Opening}
-use Rattle.methodology.specs.Account.{with_groups, DayInput, Account, members, accounts}
+use Rattle.methodology.specs.Account.{DayInput, Account, members, accounts}
 use Rattle.methodology.specs.Member.{loss}
 use Rattle.methodology.specs.Day.{total, own_max_eul, share, dailies}
 use Rattle.methodology.specs.Contribution.{KeptDay, reported_max_eul, highest, counts, counted, sum_of_shares, funded, three}
@@ -33,19 +33,18 @@ use Rattle.period.specs.Registered.{sum_at, period_of}
 use Rattle.period.specs.Follows.{Reached, fresh, by_opening, by_day, by_closing, Good, Follows}
 use Rattle.period.specs.Calls.{fresh_period, with_accrued, held_by, status_of, opening_row, opened_period, OpeningMeets, accounts_brought, total_by, day_row, reported_by, sized_period, DayMeets, closing_row, sums_held, charge_by, closed_period, ClosingMeets}
 use Rattle.period.proofs.ByFields.{by_fields}
-use Rattle.period.proofs.Reach.{opening_passed, groups_back, status_counts}
+use Rattle.period.proofs.Reach.{opening_passed, opening_back, status_counts}
 
 pub starts : Follows start fresh_period
 unfolding period_of highest greatest counted
-starts = record { is = refl; reached = fresh; good = record { groups_long = refl; members_few = omega arith } }
+starts = record { is = refl; reached = fresh; good = record { groups_long = refl; firsts_long = refl; lasts_long = refl; members_few = omega arith } }
 
-held_is : (g : Register) → Good g → held_by (period_of g) ≡ g.held
+held_is : (g : Register) → Good g.held → held_by (period_of g) ≡ g.held
 unfolding period_of
-held_is g q =
-    ap (with_groups g.held) (groups_back g.held q.groups_long q.members_few)
+held_is g q = opening_back g.held q.groups_long q.firsts_long q.lasts_long q.members_few
 
 -- the sums that it holds
-sums_are : (g : Register) → Good g → sums_held (period_of g) ≡ map (sum_of_shares g.held g.days) (members g.held.n)
+sums_are : (g : Register) → Good g.held → sums_held (period_of g) ≡ map (sum_of_shares g.held g.days) (members g.held.n)
 unfolding period_of
 sums_are g q =
     let f = sum_of_shares g.held g.days in
@@ -56,10 +55,10 @@ sums_are g q =
 
 -- ---- one call, by what the refusal table says: a refused call leaves all as it was, an accepted one leads the register and the period on
 
-by_row : (x : Verdict) {g after : Register} {p q : Period} → p ≡ period_of g → Good g → (x ≡ clear → (q ≡ period_of after) × Good after)
-    → (if_accepted x q p ≡ period_of (if_accepted x after g)) × Good (if_accepted x after g)
-by_row (Ok _) e h f = f refl
-by_row (Err met) e h f = (e, h)
+by_row : (x : Verdict) (g after : Register) {p q : Period} → p ≡ period_of g → Good g.held → (x ≡ clear → (q ≡ period_of after) × Good after.held)
+    → (if_accepted x q p ≡ period_of (if_accepted x after g)) × Good (if_accepted x after g).held
+by_row (Ok _) g after e h f = f refl
+by_row (Err met) g after e h f = (e, h)
 
 -- a figure, or a list of them, that only an accepted call gives
 accepted_by : {A : Type 0} (x : Verdict) (w v rest : A) → (x ≡ clear → w ≡ v) → if_accepted x w rest ≡ if_accepted x v rest
@@ -72,10 +71,10 @@ answer_by_lem (Err met) w v h = refl
 
 -- the same where the period's row is the register's
 module _ (g : Register) (c : Call) (x : Verdict) (same : x ≡ refusal g c) where
-  leads : {p q after : Period} → Follows g p → after ≡ if_accepted x q p → Reached after → (x ≡ clear → (q ≡ period_of (accept g c)) × Good (accept g c)) → Follows (step g c) after
+  leads : {p q after : Period} → Follows g p → after ≡ if_accepted x q p → Reached after → (x ≡ clear → (q ≡ period_of (accept g c)) × Good (accept g c).held) → Follows (step g c) after
   unfolding step
   leads {p} {q} f d w h =
-      let (i, k) = by_row (refusal g c) f.is f.good (λ e. h (same ∙ e)) in
+      let (i, k) = by_row (refusal g c) g (accept g c) f.is f.good (λ e. h (same ∙ e)) in
       record { is = d ∙ ap (λ (y : Verdict). if_accepted y q p) same ∙ i; reached = w; good = k }
 
   tells : (figures : List ℕ) {told : Answer} → told ≡ answer_by x figures → (x ≡ clear → figures ≡ returned (accept g c) c) → told ≡ answer g c
@@ -111,11 +110,11 @@ opened_is : (g : Register) (o : Opening) → opened_period o ≡ period_of (acce
 unfolding period_of accept highest greatest counted
 opened_is g o = ap (with_accrued (opened_period o)) (by_fields refl refl refl (no_sums o))
 
-opened_good : (g : Register) (p : Period) (o : Opening) → opening_row p o ≡ clear → Good (accept g (Call.opening o))
+opened_good : (g : Register) (p : Period) (o : Opening) → opening_row p o ≡ clear → Good (accept g (Call.opening o)).held
 unfolding accept
 opened_good g p o e =
     let l = opening_passed p o e in
-    record { groups_long = l.groups_long; members_few = l.members_few }
+    record { groups_long = l.groups_long; firsts_long = l.firsts_long; lasts_long = l.lasts_long; members_few = l.members_few }
 
 pub opening_follows : {g : Register} {p left : Period} {o : Opening} {said : Answer} → Follows g p → OpeningMeets p o said left
     → Follows (step g (Call.opening o)) left × (said ≡ answer g (Call.opening o))
@@ -145,7 +144,7 @@ day_row_lem {g} {p} f d room =
     ∙ day_alike (status_of p) g.status g.held (last_number g.days) d room (open_alike f)
 
 -- the day that is kept
-module _ (g : Register) (q : Good g) (d : DayInput) where
+module _ (g : Register) (q : Good g.held) (d : DayInput) where
   abbrev accts : List Account
   accts = accounts g.held.k d
 
@@ -190,9 +189,9 @@ module _ (g : Register) (q : Good g) (d : DayInput) where
       (reported_is ∙ reported_is_m g.held (kept ∷ g.days))
       (ap (λ (o : Opening). cond (counts (total o accts)) (plus_each sums (share_of o)) sums) (held_is g q) ∙ sums_after (counts (total g.held accts)) refl))
 
-  sized_good : (room : ℕ) → Good (accept g (Call.day d room))
+  sized_good : (room : ℕ) → Good (accept g (Call.day d room)).held
   unfolding accept
-  sized_good room = record { groups_long = q.groups_long; members_few = q.members_few }
+  sized_good room = q
 
   day_says : (room : ℕ) → total_by (period_of g) d ∷ reported_by (period_of g) d ∷ []
       ≡ returned (accept g (Call.day d room)) (Call.day d room)
@@ -229,9 +228,9 @@ pub closing_row_lem : {g : Register} {p : Period} → Follows g p → (room : �
 unfolding closing_row refusal closing_refusal period_of
 closing_row_lem f room = rw (open_alike f, f.is)
 
-closed_good : (g : Register) (room : ℕ) → Good g → Good (accept g (Call.closing room))
+closed_good : (g : Register) (room : ℕ) → Good g.held → Good (accept g (Call.closing room)).held
 unfolding accept
-closed_good g room q = record { groups_long = q.groups_long; members_few = q.members_few }
+closed_good g room q = q
 
 closed_is : (g : Register) (room : ℕ) → closed_period (period_of g) ≡ period_of (accept g (Call.closing room))
 unfolding period_of accept
@@ -240,13 +239,13 @@ closed_is g room = refl
 abbrev closing_figures : Period → List ℕ
 closing_figures p = p.accrued.days ∷ p.accrued.highest ∷ Σ (sums_held p) (λ s. funded (charge_by p s)) ∷ []
 
-closing_says : (g : Register) → Good g → (room : ℕ) → closing_figures (period_of g) ≡ returned (accept g (Call.closing room)) (Call.closing room)
+closing_says : (g : Register) → Good g.held → (room : ℕ) → closing_figures (period_of g) ≡ returned (accept g (Call.closing room)) (Call.closing room)
 unfolding period_of accept returned
 closing_says g q room =
     ap (λ (funds : ℕ). length (counted g.held g.days) ∷ highest g.held g.days ∷ funds ∷ [])
     (is_total_funded g.held g.days (period_of g).accrued.sums (sums_are g q))
 
-closing_writes : (g : Register) → Good g → (room : ℕ)
+closing_writes : (g : Register) → Good g.held → (room : ℕ)
     → flat_map (λ s. three (charge_by (period_of g) s)) (sums_held (period_of g)) ≡ written (accept g (Call.closing room)) (Call.closing room)
 unfolding period_of accept written
 closing_writes g q room = are_contributions g.held g.days (period_of g).accrued.sums (sums_are g q)

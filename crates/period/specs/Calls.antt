@@ -4,6 +4,7 @@
 use Rattle.std.specs.Prelude.{Bool, not, ◌&&◌, cond, ◌≡◌, ℕ, ◌+◌, ◌*◌, max, leb, ltb, eqb, length, take, replicate}
 use mathlib.Core.List.{List, [], ◌∷◌, flat_map}
 use Rattle.std.specs.List.{list_any}
+use Rattle.std.specs.Result.{is_ok}
 use Rattle.numbers.specs.Sums.{Σ}
 use Rattle.methodology.specs.declared.Status.{Status}
 use Rattle.methodology.specs.declared.Status.TheVariants.{Fresh, Open, Closed}
@@ -14,7 +15,7 @@ use Rattle.methodology.specs.Account.{no_opening, DayInput, Account, accounts}
 use Rattle.methodology.specs.Member.{loss}
 use Rattle.methodology.specs.Day.{total, own_max_eul, scale, share, dailies}
 use Rattle.methodology.specs.Contribution.{counts, charge, funded, three}
-use Rattle.methodology.specs.Refusals.{Verdict, clear, row◌when◌else◌, is_open, bad_opening, opening_refusal, day_refusal, closing_refusal}
+use Rattle.methodology.specs.Refusals.{Verdict, clear, row◌when◌else◌, is_open, opening_rows, opening_refusal, day_refusal, closing_refusal}
 use Rattle.methodology.specs.Register.{if_accepted, Answer, answer_by}
 use Rattle.quotient.specs.Ranges.{greatest_total}
 use Rattle.validation.specs.Slices.{in_places, listed}
@@ -39,13 +40,14 @@ abbrev pub held_by : Period → Opening
 held_by p = listed p.held
 
 -- Whether a period's fields are in the ranges of an open one: the last accepted day number at most 31, D at most that (day numbers rise
--- from 1), M at most the greatest T that a day can have, an opening that row 1 lets pass, each sum at most D shares of the whole.
+-- from 1), M at most the greatest T that a day can have, an opening, with its first and last days, that rows 1 and 10 let pass, each sum at
+-- most D shares of the whole.
 unfoldable pub in_range : Period → Bool
 in_range p =
     leb p.accrued.last 31
     && leb p.accrued.days p.accrued.last
     && leb p.accrued.highest greatest_total
-    && not (bad_opening (held_by p))
+    && is_ok (opening_rows (held_by p))
     && not (list_any (ltb (p.accrued.days * scale)) p.accrued.sums)
 
 -- The status that counts. A period that is out of range counts as closed, and so does a fresh one (its n is 0), which no row tells from a

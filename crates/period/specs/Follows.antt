@@ -14,13 +14,15 @@ pub data Reached : Period → Type 0 where
   by_day : {p left : Period} {d : DayInput} {before after : List ℕ} {said : Answer} → Reached p → DayMeets p d before said left after → Reached left
   by_closing : {p left : Period} {before after : List ℕ} {said : Answer} → Reached p → ClosingMeets p before said left after → Reached left
 
--- what every register that calls lead to holds
-pub record Good (g : Register) : Type 0 where
-  pub groups_long : length g.held.groups ≡ g.held.n
-  pub members_few : g.held.n ≤ 32
+-- what every opening has that a register holds to which calls lead
+pub record Good (o : Opening) : Type 0 where
+  pub groups_long : length o.groups ≡ o.n
+  pub firsts_long : length o.firsts ≡ o.n
+  pub lasts_long : length o.lasts ≡ o.n
+  pub members_few : o.n ≤ 32
 
 -- a register, and the period that the same calls have left
 pub record Follows (g : Register) (p : Period) : Type 0 where
   pub is : p ≡ period_of g
   pub reached : Reached p
-  pub good : Good g
+  pub good : Good g.held

@@ -8,8 +8,8 @@ use Rattle.period.specs.declared.DayReturns.{DayReturns}
 use Rattle.period.specs.declared.ClosingReturns.{ClosingReturns}
 
 -- what an opening call brings
-abbrev pub brought : (n k : ℕ) → (groups : List ℕ) → Opening
-brought n k groups = record { n = n; k = k; groups = groups }
+abbrev pub brought : (n k : ℕ) → (groups firsts lasts : List ℕ) → Opening
+brought n k groups firsts lasts = record { n = n; k = k; groups = groups; firsts = firsts; lasts = lasts }
 
 -- what an accepted call returns, in document 01's order; an opening returns nothing
 abbrev pub opening_returned : Unit {0} → List ℕ

@@ -2,17 +2,18 @@
 #![tactic(auto)]
 
 ghost use Rattle.std.specs.Prelude.{◌≡◌, map, ◌≤◌, ltb, length, get_or};
+ghost use Rattle.std.specs.Result.{is_ok};
 ghost use Rattle.std.specs.List.{list_any, range_with_len};
 ghost use Rattle.methodology.specs.Brought.{day_brought};
-ghost use Rattle.methodology.specs.Refusals.{is_open};
+ghost use Rattle.methodology.specs.Refusals.{opening_rows, is_open};
 ghost use Rattle.period.specs.Reading.{brought, answer_of, opening_returned, day_returned, closing_returned};
-ghost use Rattle.period.specs.Calls.{without_days, fresh_period, in_range, status_of, OpeningMeets, output_row, DayMeets, ClosingMeets};
+ghost use Rattle.period.specs.Calls.{without_days, fresh_period, held_by, in_range, status_of, OpeningMeets, output_row, DayMeets, ClosingMeets};
 
 use methodology::{Day, Opening, Refusal, Status};
-use validation::limits::bad_opening;
+use validation::limits::opening_rows;
 
-// What the calls of a period have left. Its fields are private: a period is a fresh one, or one that calls returned. The groups of the
-// opening that is held stand in 32 places, with 0 past the last. The status stands beside the opening, as in document 01's register: a closed
+// What the calls of a period have left. Its fields are private: a period is a fresh one, or one that calls returned. The lists of the
+// opening that is held stand in 32 places each, with 0 past the last. The status stands beside the opening, as in document 01's register: a closed
 // period is "otherwise as before".
 #[derive(Clone, Copy)]
 pub struct Period {
@@ -67,13 +68,13 @@ impl Accrued {
     }
 }
 
-// Groups in 32 places, with 0 past the last.
-fn group_places(groups: &[u64]) -> [u64; 32]
-    requires { length groups.now ≤ 32 }
-    ensures { result ≡ map (λ i. get_or groups.now i 0) (range_with_len 0 32) }
+// A list in 32 places, with 0 past its last number.
+fn places(list: &[u64]) -> [u64; 32]
+    requires { length list.now ≤ 32 }
+    ensures { result ≡ map (λ i. get_or list.now i 0) (range_with_len 0 32) }
 {
     let mut all = [0; 32];
-    all[..groups.len()].copy_from_slice(groups);
+    all[..list.len()].copy_from_slice(list);
     all
 }
 
@@ -85,6 +86,8 @@ impl Period {
             n: 0,
             k: 0,
             groups: [0; 32],
+            firsts: [0; 32],
+            lasts: [0; 32],
         };
         Period::without_days(Status::Fresh, no_opening)
     }
@@ -105,20 +108,35 @@ impl Period {
         }
     }
 
+    // Whether rows 1 and 10 let the opening pass that it holds.
+    #[tactic(auto, using(crate::proofs::InRange::many_members))]
+    fn held_passes(&self) -> bool
+        ensures { result ≡ is_ok (opening_rows (held_by self.now)) }
+    {
+        let held = &self.held;
+        if held.n > 32 {
+            return false;
+        }
+        let n = held.n as usize;
+        opening_rows(
+            held.n,
+            held.k,
+            &held.groups[..n],
+            &held.firsts[..n],
+            &held.lasts[..n],
+        )
+        .is_ok()
+    }
+
     // Whether every field is in the range of an open period. A test and no ghost field: a call answers every period, whatever its fields hold.
-    #[tactic(auto, using(crate::proofs::InRange::many_members), unfolding(crate::specs::Calls::in_range))]
+    #[tactic(auto, unfolding(crate::specs::Calls::in_range))]
     fn in_range(&self) -> bool
         ensures { result ≡ in_range self.now }
     {
         self.accrued.last <= 31
             && self.accrued.days <= self.accrued.last
             && self.accrued.highest <= GREATEST_TOTAL
-            && self.held.n <= 32
-            && !bad_opening(
-                self.held.n,
-                self.held.k,
-                &self.held.groups[..self.held.n as usize],
-            )
+            && self.held_passes()
             && !self.accrued.sums_above(self.accrued.days * quotient::SCALE)
     }
 
@@ -144,19 +162,26 @@ impl Period {
     }
 
     // What `opening` does to a period.
-    fn open(&mut self, n: u64, k: u64, groups: &[u64]) -> Result<(), Refusal>
-        ensures { OpeningMeets self.old (brought n k groups.now) (answer_of opening_returned result) self.new }
+    fn open(
+        &mut self,
+        n: u64,
+        k: u64,
+        groups: &[u64],
+        firsts: &[u64],
+        lasts: &[u64],
+    ) -> Result<(), Refusal>
+        ensures { OpeningMeets self.old (brought n k groups.now firsts.now lasts.now) (answer_of opening_returned result) self.new }
     {
         if self.is_open() {
             return Err(Refusal::OutOfTurn);
         }
-        if bad_opening(n, k, groups) {
-            return Err(Refusal::BadOpening);
-        }
+        opening_rows(n, k, groups, firsts, lasts)?;
         let opening = Opening {
             n,
             k,
-            groups: group_places(groups),
+            groups: places(groups),
+            firsts: places(firsts),
+            lasts: places(lasts),
         };
         *self = Period::without_days(Status::Open, opening);
         Ok(())
@@ -205,11 +230,19 @@ impl Period {
 
     // The three calls, in document 01's form: "as mut self methods on the period struct, returned inside the answer".
 
-    // "Opening takes n, k and groups, and is accepted when fresh or closed, with M, D, the last accepted day number and all sums 0."
-    pub fn opening(mut self, n: u64, k: u64, groups: &[u64]) -> Reply<()>
-        ensures { OpeningMeets self (brought n k groups.now) (answer_of opening_returned result.outcome) result.period }
+    // "Opening takes n, k and groups, and is accepted when fresh or closed, with M, D, the last accepted day number and all sums 0." It "now
+    // takes a first and a last day for each member" (document 02, Change 7).
+    pub fn opening(
+        mut self,
+        n: u64,
+        k: u64,
+        groups: &[u64],
+        firsts: &[u64],
+        lasts: &[u64],
+    ) -> Reply<()>
+        ensures { OpeningMeets self (brought n k groups.now firsts.now lasts.now) (answer_of opening_returned result.outcome) result.period }
     {
-        let outcome = self.open(n, k, groups);
+        let outcome = self.open(n, k, groups, firsts, lasts);
         Reply {
             period: self,
             outcome,

@@ -22,7 +22,7 @@ use Rattle.methodology.proofs.Passed.{passed}
 use Rattle.methodology.proofs.RowLimits.{bad_heading_le, accounts_long}
 use Rattle.validation.specs.Slices.{no_account}
 use Rattle.validation.specs.Passing.{Sized, Passes, Passed}
-use Rattle.validation.proofs.Headings.{Fine, fine, all_good}
+use Rattle.validation.proofs.Headings.{Fine, all_fine}
 use Rattle.validation.proofs.Amounts.{npv_limit, bad_amount_at}
 
 -- row 4 of what the day brings
@@ -38,9 +38,9 @@ sized o d e =
 
 module _ (o : Opening) (d : DayInput) where
   -- row 5 at each heading
-  module _ (e5 : first_bad_heading o.n nobody d.headings ≡ length d.headings) where
-    fine_at : (i : ℕ) → i < length d.headings → Fine o.n (get_or (nobody ∷ d.headings) i nobody) (get_or d.headings i nobody)
-    fine_at i l = fine o.n (get_or (nobody ∷ d.headings) i nobody) (get_or d.headings i nobody) (all_good o.n nobody d.headings e5 i l)
+  module _ (e5 : first_bad_heading o d.terms.number nobody d.headings ≡ length d.headings) where
+    fine_at : (i : ℕ) → i < length d.headings → Fine o d.terms.number (get_or (nobody ∷ d.headings) i nobody) (get_or d.headings i nobody)
+    fine_at = all_fine o d.terms.number d.headings e5
 
   -- row 6 at each account
   module _ (e6 : position_or_len bad_amount (accounts o.k d) ≡ length d.headings) where
@@ -67,7 +67,7 @@ module _ (o : Opening) (d : DayInput) where
         rw (part_at (i * w) w d.npvs j (pos 0) j-in, div-add-mod' x w) at z
 
   -- rows 4 to 6 together
-  pub rows_leave : bad_input o d ≡ false → first_bad_heading o.n nobody d.headings ≡ length d.headings
+  pub rows_leave : bad_input o d ≡ false → first_bad_heading o d.terms.number nobody d.headings ≡ length d.headings
       → position_or_len bad_amount (accounts o.k d) ≡ length d.headings → Passed o d
   rows_leave e4 e5 e6 =
       let size = sized o d e4 in
@@ -92,16 +92,16 @@ pub passes : (o : Opening) (last : ℕ) (d : DayInput) → day_rows o last d ≡
 unfolding day_rows account_rows
 passes o last d e =
     let hs = d.headings in
-    let bad5 = first_bad_heading o.n nobody hs in
+    let bad5 = first_bad_heading o d.terms.number nobody hs in
     let bad6 = position_or_len bad_amount (accounts o.k d) in
     let (e4, r₁) = passed BadLengths (bad_input o d) _ e in
     let (e3, r₂) = passed BadDayNumber (bad_day_number last d.terms.number) _ r₁ in
-    let (e5, r₃) = passed (BadHeading bad5) (ltb bad5 (length hs) || last_missing o.n hs) _ r₂ in
+    let (e5, r₃) = passed (BadHeading bad5) (ltb bad5 (length hs) || last_missing o d.terms.number hs) _ r₂ in
     let (e6, _) = passed (BadAmount bad6) (ltb bad6 (length hs)) clear r₃ in
     record {
       input = e4;
       number = e3;
-      headings = grind (arith, nat_tests, bad_heading_le o.n nobody hs);
+      headings = grind (arith, nat_tests, bad_heading_le o d.terms.number nobody hs);
       complete = grind (arith, nat_tests);
       amounts = grind (arith, nat_tests, prefix_len-le-length (λ a. not (bad_amount a)) (accounts o.k d), accounts_long o.k d);
     }

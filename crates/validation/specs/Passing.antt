@@ -6,7 +6,7 @@ use Rattle.methodology.specs.Account.{DayInput, accounts, nobody}
 use Rattle.methodology.specs.Refusals.{bad_input, bad_day_number, first_bad_heading, last_missing, bad_amount}
 use Rattle.validation.specs.Slices.{Within, Rising}
 
--- row 1: an opening within its limits
+-- rows 1 and 10: an opening within its limits
 pub record Opened (o : Opening) : Type 0 where
   pub members_some : 1 ≤ o.n
   pub members_few : o.n ≤ 32
@@ -14,6 +14,11 @@ pub record Opened (o : Opening) : Type 0 where
   pub scenarios_few : o.k ≤ 16
   pub groups_long : length o.groups ≡ o.n
   pub group_few : (i : ℕ) → i < o.n → get_or o.groups i 0 ≤ 32
+  pub firsts_long : length o.firsts ≡ o.n
+  pub lasts_long : length o.lasts ≡ o.n
+  pub first_some : (i : ℕ) → i < o.n → 1 ≤ get_or o.firsts i 0
+  pub in_order : (i : ℕ) → i < o.n → get_or o.firsts i 0 ≤ get_or o.lasts i 0
+  pub last_few : (i : ℕ) → i < o.n → get_or o.lasts i 0 ≤ 31
 
 -- row 4 of what a day brings: lengths that agree
 pub record Sized (o : Opening) (d : DayInput) : Type 0 where
@@ -27,8 +32,8 @@ pub record Sized (o : Opening) (d : DayInput) : Type 0 where
 pub record Passes (o : Opening) (last : ℕ) (d : DayInput) : Type 0 where
   pub input : bad_input o d ≡ false
   pub number : bad_day_number last d.terms.number ≡ false
-  pub headings : first_bad_heading o.n nobody d.headings ≡ length d.headings
-  pub complete : last_missing o.n d.headings ≡ false
+  pub headings : first_bad_heading o d.terms.number nobody d.headings ≡ length d.headings
+  pub complete : last_missing o d.terms.number d.headings ≡ false
   pub amounts : position_or_len bad_amount (accounts o.k d) ≡ length d.headings
 
 -- rows 4 to 6, of its slices

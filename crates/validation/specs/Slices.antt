@@ -3,15 +3,15 @@ use Rattle.std.specs.Prelude.{◌≡◌, List, [], map, ℕ, suc, ◌+◌, ◌*�
 use Rattle.std.specs.List.{range_with_len}
 use Rattle.methodology.specs.declared.Opening.{Opening}
 use Rattle.methodology.specs.declared.Heading.{Heading}
-use Rattle.methodology.specs.Account.{with_groups, Account, nobody, kind_u}
+use Rattle.methodology.specs.Account.{with_each_list, Account, nobody, kind_u}
 use Rattle.methodology.specs.Refusals.{limit}
 
--- An opening as a period keeps it, with its groups in 32 places, from a list of them, and back.
+-- An opening as a period keeps it, with each of its lists in 32 places, and back.
 abbrev pub in_places : Opening → Opening
-in_places o = with_groups o (map (λ i. get_or o.groups i 0) (range_with_len 0 32))
+in_places o = with_each_list o (λ l. map (λ i. get_or l i 0) (range_with_len 0 32))
 
 abbrev pub listed : Opening → Opening
-listed o = with_groups o (take o.n o.groups)
+listed o = with_each_list o (take o.n)
 
 -- an account of nobody, for an index past the last
 abbrev pub no_account : Account

@@ -4,15 +4,20 @@ use Rattle.std.proofs.lemmas.Bool.Decides.{nat_tests}
 use Rattle.methodology.specs.Account.{nobody}
 use Rattle.methodology.specs.Refusals.{row◌when◌else◌, account_rows}
 use Rattle.methodology.proofs.RowLimits.{bad_heading_le}
+use Rattle.validation.specs.Slices.{listed}
 use Rattle.validation.proofs.account_rows.Goals as goal
 
 pub returns-in-Some : goal.returns-in-Some
 unfolding account_rows row◌when◌else◌
 returns-in-Some c = grind (arith, nat_tests)
 
+pub last_missing-requires-clause-none_bad : goal.last_missing-requires-clause-none_bad
+last_missing-requires-clause-none_bad c =
+    grind (arith, nat_tests, bad_heading_le (listed c.args.opening) c.args.day.now.terms.number nobody c.args.day.now.headings.now)
+
 pub returns-then-last_missing : goal.returns-then-last_missing
 unfolding account_rows row◌when◌else◌
-returns-then-last_missing c = grind (arith, nat_tests, bad_heading_le c.args.opening.n nobody c.args.day.now.headings.now)
+returns-then-last_missing c = grind (arith, nat_tests, bad_heading_le (listed c.args.opening) c.args.day.now.terms.number nobody c.args.day.now.headings.now)
 
 pub returns-in-Some-first_bad_amount : goal.returns-in-Some-first_bad_amount
 unfolding account_rows row◌when◌else◌

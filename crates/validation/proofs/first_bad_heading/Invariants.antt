@@ -4,7 +4,10 @@ use Prim.Native.Nat.{◌+◌}
 use lib.ListN.{drop}
 use Rattle.methodology.specs.Account.{nobody}
 use Rattle.methodology.specs.Refusals.{first_bad_heading}
+use Rattle.validation.specs.Slices.{listed}
 use Rattle.validation.proofs.first_bad_heading.Given as goal
 
 abbrev pub invariant-loop-i : goal.invariant-loop-i
-invariant-loop-i l = first_bad_heading l.n nobody l.headings ≡ l.i + first_bad_heading l.n l.prev (drop l.i l.headings)
+invariant-loop-i l =
+    let o = listed l.opening in
+    first_bad_heading o l.number nobody l.headings ≡ l.i + first_bad_heading o l.number l.prev (drop l.i l.headings)

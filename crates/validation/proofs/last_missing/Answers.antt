@@ -1,17 +1,18 @@
--- `last_missing` meets its contract: it is the definition's test.
-use mathlib.Core.Path.{ap}
-use mathlib.Core.Bool.{not}
-use lib.Dec.{eqb}
-use borrow.Author.Tests.{tests}
-use Rattle.std.proofs.Common.{rules}
-use Rattle.std.proofs.lemmas.Iterator.{YieldsList-from_slice}
-use Rattle.std.proofs.lemmas.Iterator.Search.{any_from_yields_List}
-use Rattle.methodology.specs.declared.Heading.{Heading}
-use Rattle.methodology.specs.Refusals.{last_missing}
+-- `last_missing` meets its contract: who is missing comes after the last account's member, who is one of n.
+use Rattle.std.proofs.Common.{◌-◌, length, sym, ◌∙◌, arith}
+use Rattle.validation.specs.Slices.{listed}
+use Rattle.validation.proofs.Headings.{all_fine}
+use Rattle.validation.proofs.Presence.{missing_is_after}
 use Rattle.validation.proofs.last_missing.Goals as goal
 
+pub passed_over-requires : goal.passed_over-requires
+passed_over-requires c =
+    let r = c.requires in
+    let last = all_fine (listed c.args.opening.now) c.args.number c.args.headings.now r.none_bad (length c.args.headings.now - 1) (omega (arith, r.some)) in
+    (omega (arith, last.most), omega arith, r.few)
+
 pub returns : goal.returns
-unfolding last_missing
 returns c =
-    let same = λ (h : Heading). eqb h.member c.args.n in
-    ap not (any_from_yields_List same _ _ _ c.any.ensures.ran (YieldsList-from_slice c.args.headings.now cc) (λ x b q k. search (rules, tests)))
+    let r = c.requires in
+    let after = missing_is_after (listed c.args.opening.now) c.args.number c.args.headings.now r.none_bad (length c.args.headings.now - 1) (omega (arith, r.some)) in
+    c.passed_over.ensures ∙ sym after

@@ -15,7 +15,7 @@ returns-in_err-output_row c =
     rw (met.1, met.2) (output_refused _ _ _ _ (sym c.in_err-output_row.ensures))
 
 pub day_rows-requires : goal.day_rows-requires
-day_rows-requires c = (held_opened (ready _ _ _ (sym c.in_ok-output_row.ensures)).in_range_lem).scenarios_few
+day_rows-requires c = let o = held_opened (ready _ _ _ (sym c.in_ok-output_row.ensures)).in_range_lem in (o.members_few, o.scenarios_few)
 
 pub returns-in_err-day_rows : goal.returns-in_err-day_rows
 returns-in_err-day_rows c =
