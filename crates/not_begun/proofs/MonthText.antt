@@ -2,23 +2,23 @@
 -- text was made of; the closing comes next, or 9.
 use mathlib.Core.Path.{◌≡◌, refl, sym, ap, ◌∙◌}
 use mathlib.Core.Bool.{true, false, cond}
-use mathlib.Core.List.{List, [], ◌∷◌, ◌++◌, flat_map, append_assoc, append-nil}
+use mathlib.Core.List.{List, [], ◌∷◌, ◌++◌, map, flat_map, append_assoc, append-nil}
 use Rattle.std.specs.Prelude.{Some}
 use Rattle.std.specs.List.{AllByRecursion, range_with_len}
-use Prim.Native.Nat.{ℕ, zero, suc, ◌+◌, ◌^◌, ◌≤◌, ◌<◌}
+use Prim.Native.Nat.{ℕ, zero, suc, ◌+◌, ◌-◌, ◌^◌, ◌≤◌, ◌<◌}
 use native.Mathlib.Omega.{arith}
 use native.Mathlib.Numerals.{add-one}
 use lib.Dec.{eqb, ltb}
-use lib.ListN.{length, get_or, take, length-append}
+use lib.ListN.{length, get_or, take, length-append, length-map}
 use lib.Seq.{take-suc, take_all, length-take-le}
 use borrow.Author.Tests.{eq-eqb, ne_eqb, le-ltb}
 use Rattle.numbers.proofs.Lists.{none_any, every_mem, every_append, every_flat_map, every_weaken}
 use Rattle.methodology.specs.declared.Opening.{Opening}
-use Rattle.methodology.specs.Account.{with_groups, members}
+use Rattle.methodology.specs.Account.{with_each_list, members, first_day, last_day}
 use Rattle.methodology.specs.Day.{group_number}
-use Rattle.methodology.specs.Refusals.{clear, row◌when◌else◌, bad_opening, opening_refusal}
+use Rattle.methodology.specs.Refusals.{clear, row◌when◌else◌, opening_rows, opening_refusal}
 use Rattle.methodology.specs.Register.{Call, Register, start, refusal, step}
-use Rattle.methodology.specs.Text.{tab, LF, bytes, same, split, decimal, every_field, also, bad_bytes, numbers_after, printed, Expected, period, member, day, after_end, read_period, Read, goes_on, opened, read_member, read_line, followed_by, report_from, report_of}
+use Rattle.methodology.specs.Text.{tab, LF, bytes, same, split, decimal, number_of, every_field, also, bad_bytes, numbers_after, printed, Expected, period, member, day, after_end, read_period, Read, goes_on, opened, with_member, read_member, read_line, followed_by, report_from, report_of}
 use Rattle.methodology.proofs.Splits.{split_first}
 use Rattle.methodology.proofs.Short.{printed_short}
 use Rattle.validation.specs.Passing.{Opened}
@@ -27,7 +27,7 @@ use Rattle.as_printed.proofs.ReadBack.{Digit, all_digits, reads_back_as_text}
 use Rattle.as_printed.proofs.PrintedLines.{Word, without, tabbed, line_with, line_fields_lem, line_ended}
 use Rattle.not_begun.specs.NotBegun.{text_of}
 
--- ---- a line: a word, and two numbers or none
+-- ---- a line: a word, and up to four numbers
 
 abbrev Ascii : ℕ → Type 0
 Ascii x = ltb 127 x ≡ false
@@ -39,7 +39,7 @@ record Begins (w : List ℕ) : Type 0 where
   ascii : AllByRecursion Ascii w
   alike : same w w ≡ true
 
-good_bytes : (w numbers : List ℕ) → Begins w → length numbers ≤ 2 → bad_bytes (line_with w numbers) ≡ false
+good_bytes : (w numbers : List ℕ) → Begins w → length numbers ≤ 4 → bad_bytes (line_with w numbers) ≡ false
 unfolding bad_bytes printed
 good_bytes w numbers b few =
     let digits : (x : ℕ) → AllByRecursion Ascii (decimal x) = λ x. every_weaken Digit Ascii (λ y d. le-ltb 127 y (omega (arith, d.1))) (decimal x) (all_digits 19 x) in
@@ -47,13 +47,18 @@ good_bytes w numbers b few =
     let long : length (line_with w numbers) ≤ 512 = omega (arith, printed_short w numbers, length-append (line_with w numbers) (LF ∷ []), b.short) in
     rw (le-ltb 512 (length (line_with w numbers)) long, none_any (ltb 127) (line_with w numbers) (every_mem Ascii (line_with w numbers) ascii))
 
-reads_two : (w : List ℕ) (a b : ℕ) → Begins w → a < 10 ^ 13 → b < 10 ^ 13 → numbers_after w 2 (line_with w (a ∷ b ∷ [])) ≡ Some (a ∷ b ∷ [])
-unfolding numbers_after every_field also
-reads_two w a b s h k =
-    rw (line_fields_lem w (a ∷ b ∷ []) (without tab w s.word.0), s.alike, reads_back_as_text a h, reads_back_as_text b k)
+every_back : (numbers : List ℕ) → AllByRecursion (λ x. x < 10 ^ 13) numbers → every_field number_of (map decimal numbers) ≡ Some numbers
+unfolding every_field also
+every_back [] few = refl
+every_back (x ∷ xs) few = rw (reads_back_as_text x few.0, every_back xs few.1) refl
+
+reads_back : (w numbers : List ℕ) → Begins w → AllByRecursion (λ x. x < 10 ^ 13) numbers → numbers_after w (length numbers) (line_with w numbers) ≡ Some numbers
+unfolding numbers_after
+reads_back w numbers s few =
+    rw (line_fields_lem w numbers (without tab w s.word.0), s.alike, eq-eqb (suc (length (map decimal numbers))) (length numbers + 1) (ap suc (length-map numbers decimal) ∙ omega arith), every_back numbers few)
 
 -- the line at the front of a text is read, and then the rest
-line_read_lem : (i : ℕ) (w numbers rest : List ℕ) (e : Expected) → Begins w → length numbers ≤ 2
+line_read_lem : (i : ℕ) (w numbers rest : List ℕ) (e : Expected) → Begins w → length numbers ≤ 4
     → report_from i (split LF (printed w numbers ++ rest)) e ≡ followed_by (read_line e i (line_with w numbers)) (report_from (i + 1) (split LF rest))
 unfolding report_from
 line_read_lem i w numbers rest e b few =
@@ -73,7 +78,7 @@ begins_end = record { word = (refl, refl); short = omega arith; ascii = (refl, (
 
 -- ---- the text
 
-module _ (o : Opening) (good : bad_opening o ≡ false) where
+module _ (o : Opening) (good : opening_rows o ≡ clear) where
   limits : Opened o
   limits = opening_leaves o good
 
@@ -85,40 +90,57 @@ module _ (o : Opening) (good : bad_opening o ≡ false) where
   period_line = printed (bytes "period") (o.n ∷ o.k ∷ [])
 
   abbrev member_line : (m : ℕ) → List ℕ
-  member_line m = printed (bytes "member") (m ∷ group_number o m ∷ [])
+  member_line m = printed (bytes "member") (m ∷ group_number o m ∷ first_day o m ∷ last_day o m ∷ [])
 
   pub opening_clear : refusal start (Call.opening o) ≡ clear
   unfolding refusal opening_refusal row◌when◌else◌
   opening_clear = rw good
 
-  -- the opening with the groups of the first `count` members
+  -- the opening with what the first `count` members bring
   abbrev up_to : (count : ℕ) → Opening
-  up_to count = with_groups o (take count o.groups)
+  up_to count = with_each_list o (take count)
 
-  group_is : (count : ℕ) → group_number o (suc count) ≡ get_or o.groups count 0
-  group_is count = ap (λ (i : ℕ). get_or o.groups i 0) (omega arith)
+  number_is : (list : List ℕ) (count : ℕ) → get_or list (suc count - 1) 0 ≡ get_or list count 0
+  number_is list count = ap (λ (i : ℕ). get_or list i 0) (omega arith)
 
-  -- what a member's line adds
-  one_more : (count : ℕ) → count < o.n → take count o.groups ++ (group_number o (suc count) ∷ []) ≡ take (suc count) o.groups
-  one_more count h = rw (group_is count) (sym (take-suc o.groups count 0 (omega (arith, limits.groups_long))))
+  -- what a member's line adds to a list
+  one_more : (list : List ℕ) → length list ≡ o.n → (count : ℕ) → count < o.n → take count list ++ (get_or list (suc count - 1) 0 ∷ []) ≡ take (suc count) list
+  one_more list long count h = rw (number_is list count) (sym (take-suc list count 0 (omega (arith, h, long))))
 
   counted : (count : ℕ) → count ≤ o.n → length (take count o.groups) ≡ count
   counted count h = length-take-le count o.groups (omega (arith, limits.groups_long))
 
-  all_groups : (count : ℕ) → count ≡ o.n → up_to count ≡ o
-  all_groups count h = ap (with_groups o) (take_all count o.groups (omega (arith, limits.groups_long)))
+  all_lists : (count : ℕ) → count ≡ o.n → up_to count ≡ o
+  all_lists count h =
+      rw (
+        take_all count o.groups (omega (arith, h, limits.groups_long)),
+        take_all count o.firsts (omega (arith, h, limits.firsts_long)),
+        take_all count o.lasts (omega (arith, h, limits.lasts_long)),
+      ) refl
 
   -- the line of member `count` + 1: the opening call is made where it is the last
   member_read : (count i : ℕ) (rest : List ℕ) → count < o.n
       → report_from i (split LF (member_line (suc count) ++ rest)) (member (up_to count))
       ≡ (let o' = up_to (suc count) in
       followed_by (cond (eqb (suc count) o.n) (opened (refusal start (Call.opening o')) o') (goes_on [] (member o'))) (report_from (i + 1) (split LF rest)))
-  unfolding read_line read_member
+  unfolding read_line read_member with_member
   member_read count i rest h =
-      let few : group_number o (suc count) < 10 ^ 13 = omega (arith, group_is count, limits.group_few count h) in
-      let read = reads_two (bytes "member") (suc count) (group_number o (suc count)) begins_member (omega (arith, limits.members_few)) few in
-      line_read_lem i (bytes "member") (suc count ∷ group_number o (suc count) ∷ []) rest (member (up_to count)) begins_member (omega arith)
-      ∙ rw (read, one_more count h, counted (suc count) (omega arith), eq-eqb (suc count) (suc count) refl)
+      let l = limits in
+      let m = suc count in
+      let group : group_number o m < 10 ^ 13 = omega (arith, number_is o.groups count, l.group_few count h) in
+      let last : last_day o m < 10 ^ 13 = omega (arith, number_is o.lasts count, l.last_few count h) in
+      let first : first_day o m < 10 ^ 13 = omega (arith, number_is o.firsts count, l.in_order count h, l.last_few count h) in
+      let numbers = m ∷ group_number o m ∷ first_day o m ∷ last_day o m ∷ [] in
+      let read = reads_back (bytes "member") numbers begins_member (omega (arith, h, l.members_few), (group, (first, (last, tt)))) in
+      line_read_lem i (bytes "member") numbers rest (member (up_to count)) begins_member (omega arith)
+      ∙ rw (
+        read,
+        one_more o.groups l.groups_long count h,
+        one_more o.firsts l.firsts_long count h,
+        one_more o.lasts l.lasts_long count h,
+        counted m (omega arith),
+        eq-eqb m m refl,
+      )
 
   -- from there on, where `left` are due, to what follows them
   from_member : (left count i : ℕ) (end : List ℕ) → 1 ≤ left → count + left ≡ o.n
@@ -128,7 +150,7 @@ module _ (o : Opening) (good : bad_opening o ≡ false) where
   from_member zero count i end some h = absurd (omega arith)
   from_member (suc zero) count i end some h =
       rw (append-nil (member_line (suc count)))
-      (member_read count i end (omega arith) ∙ rw (eq-eqb (suc count) o.n (omega arith), all_groups (suc count) (omega arith), opening_clear))
+      (member_read count i end (omega arith) ∙ rw (eq-eqb (suc count) o.n (omega arith), all_lists (suc count) (omega arith), opening_clear))
   from_member (suc (suc left)) count i end some h =
       let more = flat_map member_line (range_with_len (suc (suc count)) (suc left)) in
       rw (add-one (suc count), append_assoc (member_line (suc count)) more end)
@@ -140,7 +162,7 @@ module _ (o : Opening) (good : bad_opening o ≡ false) where
   unfolding read_line read_period
   period_read =
       let l = limits in
-      let read = reads_two (bytes "period") o.n o.k begins_period (omega (arith, l.members_few)) (omega (arith, l.scenarios_few)) in
+      let read = reads_back (bytes "period") (o.n ∷ o.k ∷ []) begins_period (omega (arith, l.members_few), (omega (arith, l.scenarios_few), tt)) in
       rw (read, le-ltb o.n 1 l.members_some, le-ltb 32 o.n l.members_few, le-ltb o.k 1 l.scenarios_some, le-ltb 16 o.k l.scenarios_few)
 
   abbrev end_line : List ℕ

@@ -17,7 +17,7 @@ use Rattle.methodology.specs.declared.Refusal.TheVariants.{BadLine}
 use Rattle.methodology.specs.declared.Opening.{Opening}
 use Rattle.methodology.specs.Account.{members}
 use Rattle.methodology.specs.Contribution.{counted, charge, raw, funded, unfunded, three, contributions, total_funded}
-use Rattle.methodology.specs.Refusals.{clear, bad_opening}
+use Rattle.methodology.specs.Refusals.{clear, opening_rows}
 use Rattle.methodology.specs.Register.{Call, Register, start, refusal, accept, step, returned, written, accepted, answer, buffer}
 use Rattle.methodology.specs.Text.{bytes, printed, stretch, rows, refused_line, fund_lines, closed, report_of}
 use Rattle.methodology.proofs.Passed.{step_clear, opened_anew}
@@ -139,7 +139,7 @@ module _ (n : ℕ) where
       ∙ ap (flat_map (printed word)) (map_eq line (λ m. m ∷ each m) (members n) (λ m i. ap (λ (l : List ℕ). m ∷ l) (own m i)))
       ∙ flat_map_map (λ m. m ∷ each m) (members n) (printed word))
 
-report : (o : Opening) → bad_opening o ≡ false → report_of (text_of o) ≡ fund_of o.n
+report : (o : Opening) → opening_rows o ≡ clear → report_of (text_of o) ≡ fund_of o.n
 unfolding closed returned written
 report o good =
     let g = step start (Call.opening o) in
@@ -153,7 +153,7 @@ report o good =
     ∙ rw (closing_clear g none.opened, leaves g room none refl, no_day, highest_none g.held [] no_day, total_none g.held, writes_none g.held)
     (fund_is g.held.n ∙ rw is refl)
 
-report_after : (o : Opening) (rest : List ℕ) → bad_opening o ≡ false → 0 < length rest → report_of (text_of o ++ rest) ≡ refused_line BadLine (o.n + 3)
+report_after : (o : Opening) (rest : List ℕ) → opening_rows o ≡ clear → 0 < length rest → report_of (text_of o ++ rest) ≡ refused_line BadLine (o.n + 3)
 report_after o rest good some = to_the_end o good rest ∙ something_after (step start (Call.opening o)) (o.n + 2) (o.n + 3) rest some
 
 pub not_begun : NotBegun

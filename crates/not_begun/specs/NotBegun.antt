@@ -12,10 +12,10 @@ use Rattle.numbers.specs.Fractions.{◌over◌}
 use Rattle.methodology.specs.declared.Status.TheVariants.{Open, Closed}
 use Rattle.methodology.specs.declared.Refusal.TheVariants.{BadLine}
 use Rattle.methodology.specs.declared.Opening.{Opening}
-use Rattle.methodology.specs.Account.{members}
+use Rattle.methodology.specs.Account.{members, first_day, last_day}
 use Rattle.methodology.specs.Day.{group_number}
 use Rattle.methodology.specs.Contribution.{highest, counts, raw, exact_charge}
-use Rattle.methodology.specs.Refusals.{clear, bad_opening}
+use Rattle.methodology.specs.Refusals.{clear, opening_rows}
 use Rattle.methodology.specs.Register.{Call, Register, start, refusal, step, Answer, accepted, answer, buffer}
 use Rattle.methodology.specs.Text.{bytes, printed, refused_line, report_of}
 use Rattle.period.specs.Registered.{period_of}
@@ -63,7 +63,8 @@ days_answered cs = from_answers after_accepted 0 cs
 abbrev pub text_of : Opening → List ℕ
 text_of o =
     printed (bytes "period") (o.n ∷ o.k ∷ [])
-    ++ (flat_map (λ m. printed (bytes "member") (m ∷ group_number o m ∷ [])) (members o.n) ++ printed (bytes "end") [])
+    ++ (flat_map (λ m. printed (bytes "member") (m ∷ group_number o m ∷ first_day o m ∷ last_day o m ∷ [])) (members o.n)
+    ++ printed (bytes "end") [])
 
 -- `fund 0 0 ..` and the contributions
 abbrev pub fund_of : (n : ℕ) → List ℕ
@@ -101,5 +102,5 @@ pub record NotBegun : Type 2 where
   pub d_shows : (cs : List Made) (c : Made) (out figures : List ℕ) → MadeOn fresh_period (cs ++ (c ∷ [])) → c.asked ≡ Asked.closing out
       → c.answer ≡ accepted figures → take 1 figures ≡ days_answered cs ∷ []
   -- every text of period, members and end; with anything after it the next line is refused by 9, "before the closing call", as in any month
-  pub report : (o : Opening) → bad_opening o ≡ false → report_of (text_of o) ≡ fund_of o.n
-  pub report_after : (o : Opening) (rest : List ℕ) → bad_opening o ≡ false → 0 < length rest → report_of (text_of o ++ rest) ≡ refused_line BadLine (o.n + 3)
+  pub report : (o : Opening) → opening_rows o ≡ clear → report_of (text_of o) ≡ fund_of o.n
+  pub report_after : (o : Opening) (rest : List ℕ) → opening_rows o ≡ clear → 0 < length rest → report_of (text_of o ++ rest) ≡ refused_line BadLine (o.n + 3)

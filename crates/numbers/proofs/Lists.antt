@@ -38,6 +38,10 @@ mem_index : {A : Type 0} {x : A} {xs : List A} (d : A) → x ∈ xs → (i : ℕ
 mem_index d (here e) = (0, omega arith, sym e)
 mem_index d (there m) = let (i, h, e) = mem_index d m in (suc i, omega arith, e)
 
+pub mem_some : {A : Type 0} {x : A} {xs : List A} → x ∈ xs → 0 < length xs
+mem_some (here q) = omega arith
+mem_some (there m) = omega arith
+
 pub by_index : {A : Type 0} (P : A → Type 0) (xs : List A) (d : A) → ((i : ℕ) → i < length xs → P (get_or xs i d)) → (x : A) → x ∈ xs → P x
 by_index P xs d h x m = let (i, k, e) = mem_index d m in subst P e (h i k)
 
@@ -160,6 +164,15 @@ module _ {A : Type 0} (p : A → Bool) where
       by true e h (here q) = (here q, ap p q ∙ e)
       by true e h (there m) = (there (h m).0, (h m).1)
       by false e h m = (there (h m).0, (h m).1)
+
+  pub keep_mem : {x : A} {xs : List A} → x ∈ xs → p x ≡ true → x ∈ filter p xs
+  keep_mem {x} {xs = []} m e = absurd (Memᴰ.not-nil m)
+  keep_mem {x} {xs = y ∷ ys} (here q) e = rw (ap p (sym q) ∙ e) (here q)
+  keep_mem {x} {xs = y ∷ ys} (there m) e = by (p y) (keep_mem m e)
+    where
+      by : (t : Bool) → x ∈ filter p ys → x ∈ cond t (y ∷ filter p ys) (filter p ys)
+      by true m = there m
+      by false m = m
 
 -- where none passes, and where all do
 pub keep_none : {A : Type 0} (p : A → Bool) (xs : List A) → ((x : A) → x ∈ xs → p x ≡ false) → filter p xs ≡ []

@@ -22,10 +22,18 @@ module _ (o : Opening) (number : ℕ) where
   unfolding passed_over
   over_at from m to i after before there = some_any _ i (rw (after, before, there) refl)
 
-  -- none is passed over where nobody is between
-  pub over_none : (from to : ℕ) → to ≤ suc from → passed_over o number from to ≡ false
+  -- none is passed over where all between are absent, so not where nobody is between
+  pub over_absent : (from to : ℕ) → ((m : ℕ) → from < m → m < to → present o number m ≡ false) → passed_over o number from to ≡ false
   unfolding passed_over
-  over_none from to h = none_any _ (members o.n) (λ m i. grind (arith, nat_tests))
+  over_absent from to absent = none_any _ (members o.n) (λ m i. by m (ltb from m) (ltb m to) refl refl)
+    where
+      by : (m : ℕ) (s t : Bool) → ltb from m ≡ s → ltb m to ≡ t → (s && t && present o number m) ≡ false
+      by m false t p q = refl
+      by m true false p q = refl
+      by m true true p q = rw (absent m (ltb-true from m p) (ltb-true m to q)) refl
+
+  pub over_none : (from to : ℕ) → to ≤ suc from → passed_over o number from to ≡ false
+  over_none from to h = over_absent from to (λ m k l. absurd (let no_way : ⊥ = omega (arith, h, k, l) in no_way))
 
   -- the search among those after m - 1: at m, and past it
   pub over_here : (m to : ℕ) → 1 ≤ m → m < to → m ≤ o.n → present o number m ≡ true → passed_over o number (m - 1) to ≡ true

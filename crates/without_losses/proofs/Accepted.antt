@@ -1,35 +1,37 @@
 -- A day without losses is accepted as any other (document 02, Change 4): what the rows ask of a day says nothing of its losses (`day_accepted`).
--- And there is one in every open period, under any number above the last, up to 31 (`there_is_one`): each member has its house account
--- alone, and all amounts are 0. Its accounts are a table over the members, so each row's test and each loss is that of one account.
-use mathlib.Core.Path.{◌≡◌, refl, sym, ◌∙◌}
-use mathlib.Core.Bool.{false}
-use mathlib.Core.List.{map}
+-- And there is one in every open period, under any number above the last on which somebody is present (`there_is_one`): each member that is
+-- present has its house account alone, and all amounts are 0. So each row's test and each loss is that of one such account.
+use mathlib.Core.Path.{◌≡◌, refl, sym, ap, ◌∙◌}
+use mathlib.Core.Bool.{Bool, true, false, not, ◌&&◌, cond}
+use mathlib.Core.List.{List, ◌∷◌, map}
 use Prim.Native.Nat.{ℕ, zero, suc, ◌+◌, ◌-◌, ◌*◌, ◌≤◌, ◌<◌}
 use native.Mathlib.Omega.{arith}
 use native.Mathlib.Nat.{mul-le-mul_right}
 use lib.IntN.{pos}
-use lib.Dec.{eqb}
+use lib.Dec.{leb, eqb}
 use lib.ListN.{length, get_or, replicate}
-use borrow.Author.Tests.{eq-eqb, le-ltb}
-use Rattle.std.specs.List.{range_with_len}
+use borrow.Author.Tests.{eq-eqb, eqb-true, eqb-false, leb-true, le-ltb}
+use Rattle.std.specs.List.{filter, list_any, range_with_len}
 use Rattle.std.proofs.lemmas.Bool.Decides.{nat_tests}
-use Rattle.std.proofs.lemmas.List.{length-replicate, drop-replicate, take-replicate}
-use Rattle.std.proofs.lemmas.List.FromFn.{length-map-range_with_len, get_or-map-range_with_len}
-use Rattle.std.proofs.lemmas.List.Sums.{position_or_len_is}
-use Rattle.numbers.proofs.Lists.{◌∈◌, by_index, mem_at, replicate_at, is_table, none_any, any_found, every_mem, every_map}
+use Rattle.std.proofs.lemmas.List.{get_or-map, length-map, length-replicate, drop-replicate, take-replicate}
+use Rattle.std.proofs.lemmas.List.FromFn.{length-range_with_len}
+use Rattle.std.proofs.lemmas.List.Sums.{position_or_len_is, length-filter, count_by-le-length}
+use Rattle.numbers.proofs.Tests.{both}
+use Rattle.numbers.proofs.Lists.{◌∈◌, mem_at, mem_some, by_index, range_mem, keep_mem, replicate_at, none_any, some_any, any_map}
 use Rattle.methodology.specs.declared.Status.TheVariants.{Open}
 use Rattle.methodology.specs.declared.Opening.{Opening}
 use Rattle.methodology.specs.declared.Heading.{Heading}
-use Rattle.methodology.specs.Account.{DayInput, Account, account_at, accounts, members, nobody, kind_h}
+use Rattle.methodology.specs.Account.{DayInput, Account, account_at, accounts, members, first_day, last_day, present, nobody, kind_h}
 use Rattle.methodology.specs.Day.{total}
-use Rattle.methodology.specs.Refusals.{clear, row◌when◌else◌, bad_day_number, bad_heading, first_bad_heading, last_missing, npv_outside, bad_amount}
-use Rattle.methodology.specs.Refusals.{account_rows, day_rows, day_refusal, bad_opening}
+use Rattle.methodology.specs.Refusals.{clear, row◌when◌else◌, bad_day_number, passed_over, bad_heading, first_bad_heading, last_missing, npv_outside, bad_amount}
+use Rattle.methodology.specs.Refusals.{account_rows, day_rows, day_refusal, opening_rows}
 use Rattle.methodology.specs.Register.{Call, Register, last_number, refusal}
 use Rattle.methodology.proofs.RowLimits.{accounts_long}
 use Rattle.exposure.proofs.Bounds.{Limited, total_bound}
 use Rattle.validation.specs.Slices.{no_account}
-use Rattle.validation.specs.Passing.{Passes}
+use Rattle.validation.specs.Passing.{Opened, Passes}
 use Rattle.validation.proofs.Amounts.{accounts_at}
+use Rattle.validation.proofs.Presence.{over_absent}
 use Rattle.validation.proofs.OpeningPasses.{opening_leaves}
 use Rattle.without_losses.specs.PutIn.{AcceptedWithout}
 
@@ -50,57 +52,84 @@ house m = record { member = m; number = 0; kind = kind_h }
 abbrev pub quiet_account : (k m : ℕ) → Account
 quiet_account k m = record { heading = house m; npvs = replicate (k + 1) (pos 0); margin = 0; extra = 0 }
 
--- the day on which each member has this account alone
+-- who is present on a day
+abbrev pub present_on : Opening → (number : ℕ) → List ℕ
+present_on o number = filter (present o number) (members o.n)
+
+-- the day on which each of them has this account alone
 abbrev pub quiet_day : Opening → (number : ℕ) → DayInput
 quiet_day o number =
+    let count = length (present_on o number) in
     record {
       terms = record { number = number };
-      headings = map house (members o.n);
-      npvs = replicate (o.n * (o.k + 1)) (pos 0);
-      margins = replicate o.n 0;
-      extras = replicate o.n 0;
+      headings = map house (present_on o number);
+      npvs = replicate (count * (o.k + 1)) (pos 0);
+      margins = replicate count 0;
+      extras = replicate count 0;
     }
 
 module _ (o : Opening) (number : ℕ) where
   abbrev day : DayInput
   day = quiet_day o number
 
-  count : length day.headings ≡ o.n
-  count = length-map-range_with_len house 1 o.n
+  abbrev those : List ℕ
+  those = present_on o number
 
-  quiet_at : (i : ℕ) → i < o.n → account_at o.k day i ≡ quiet_account o.k (1 + i)
+  count : length day.headings ≡ length those
+  count = length-map those house
+
+  quiet_at : (i : ℕ) → i < length those → account_at o.k day i ≡ quiet_account o.k (get_or those i 0)
   unfolding account_at
   quiet_at i l =
       let w = o.k + 1 in
-      let whole : w ≤ o.n * w - i * w = omega (arith, mul-le-mul_right w l) in
+      let n = length those in
+      let whole : w ≤ n * w - i * w = omega (arith, mul-le-mul_right w l) in
       rw (
-        get_or-map-range_with_len house 1 o.n i (1 + i) nobody l refl,
-        drop-replicate (i * w) (o.n * w) (pos 0),
-        take-replicate w (o.n * w - i * w) (pos 0) whole,
-        replicate_at {A = ℕ} o.n i 0,
+        get_or-map house those i 0 nobody l,
+        drop-replicate (i * w) (n * w) (pos 0),
+        take-replicate w (n * w - i * w) (pos 0) whole,
+        replicate_at {A = ℕ} n i 0,
       )
       refl
 
-  table : accounts o.k day ≡ map (quiet_account o.k) (members o.n)
-  table =
-      is_table (quiet_account o.k) 1 o.n no_account (accounts o.k day) (accounts_long o.k day ∙ count)
-      (λ i l. accounts_at o.k day i (omega (arith, count)) ∙ quiet_at i l)
-
-  -- what each member's account has, every account has
+  -- what such an account has, every account has
   each : (P : Account → Type 0) → ((m : ℕ) → P (quiet_account o.k m)) → (a : Account) → a ∈ accounts o.k day → P a
-  each P h = rw table (every_mem P (map (quiet_account o.k) (members o.n)) (every_map P (quiet_account o.k) (members o.n) (λ m i. h m)))
+  each P h =
+      by_index P (accounts o.k day) no_account
+      (λ i l.
+      let here : i < length those = omega (arith, l, accounts_long o.k day, count) in
+      rw (accounts_at o.k day i (omega (arith, here, count)), quiet_at i here) (h (get_or those i 0)))
 
 -- ---- the rows
 
--- row 5: each member's heading may stand behind that of the member before it, and `nobody` is member 0
-follows : (n m : ℕ) (prev : Heading) → prev.member + 1 ≡ m → m ≤ n → bad_heading n prev (house m) ≡ false
+-- row 5: the house account of a member that is present may stand behind another's where nobody present is between
+follows : (o : Opening) (number m : ℕ) (prev : Heading) → prev.member < m → m ≤ o.n → present o number m ≡ true
+    → passed_over o number prev.member m ≡ false → bad_heading o number prev (house m) ≡ false
 unfolding bad_heading
-follows n m prev e l = grind (arith, nat_tests)
+follows o number m prev low high there none = grind (arith, nat_tests)
 
-good_headings : (n a c : ℕ) (prev : Heading) → prev.member + 1 ≡ a → a + c ≤ n + 1 → first_bad_heading n prev (map house (range_with_len a c)) ≡ c
+-- from member a on, where those between it and the one before are absent
+good_headings : (o : Opening) (number a c : ℕ) (prev : Heading) → prev.member < a → a + c ≤ o.n + 1
+    → ((m : ℕ) → prev.member < m → m < a → present o number m ≡ false)
+    → let those = filter (present o number) (range_with_len a c) in first_bad_heading o number prev (map house those) ≡ length those
 unfolding first_bad_heading
-good_headings n a zero prev e l = refl
-good_headings n a (suc c) prev e l = rw (follows n a prev e (omega arith), good_headings n (a + 1) c (house a) refl (omega arith)) refl
+good_headings o number a zero prev low high absent = refl
+good_headings o number a (suc c) prev low high absent =
+    by (present o number a) refl (good_headings o number (a + 1) c (house a) (omega arith) (omega arith) (λ m h k. absurd (let no_way : ⊥ = omega (arith, h, k) in no_way)))
+    (λ e. good_headings o number (a + 1) c prev (omega arith) (omega arith) (λ m h k. with_a e m h k (eqb m a) refl))
+  where
+    after : List ℕ
+    after = filter (present o number) (range_with_len (a + 1) c)
+
+    with_a : present o number a ≡ false → (m : ℕ) → prev.member < m → m < a + 1 → (t : Bool) → eqb m a ≡ t → present o number m ≡ false
+    with_a e m h k true q = ap (present o number) (eqb-true m a q) ∙ e
+    with_a e m h k false q = absent m h (let other = eqb-false m a q in omega (arith, k, other))
+
+    by : (t : Bool) → present o number a ≡ t → first_bad_heading o number (house a) (map house after) ≡ length after
+        → (present o number a ≡ false → first_bad_heading o number prev (map house after) ≡ length after)
+        → first_bad_heading o number prev (map house (cond t (a ∷ after) after)) ≡ length (cond t (a ∷ after) after)
+    by true e rest skip = rw (follows o number a prev low (omega (arith, high)) e (over_absent o number prev.member a absent)) (ap suc rest)
+    by false e rest skip = skip e
 
 -- row 6: no amount of the account is bad
 good_amounts : (k m : ℕ) → bad_amount (quiet_account k m) ≡ false
@@ -109,20 +138,46 @@ good_amounts k m =
     let npvs = replicate (k + 1) (pos 0) in
     rw (none_any npv_outside npvs (by_index (λ z. npv_outside z ≡ false) npvs (pos 0) (λ i l. rw (replicate_at (k + 1) i (pos 0)) refl))) refl
 
-quiet_passes : (o : Opening) (number last : ℕ) → bad_opening o ≡ false → last < number → number ≤ 31 → Passes o last (quiet_day o number)
-unfolding bad_day_number last_missing
-quiet_passes o number last e low high =
+-- each member that is present has an account
+none_missing : (o : Opening) (number : ℕ) → last_missing o number (map house (present_on o number)) ≡ false
+unfolding last_missing
+none_missing o number = none_any _ (members o.n) (λ m i. by m i (present o number m) refl)
+  where
+    by : (m : ℕ) → m ∈ members o.n → (t : Bool) → present o number m ≡ t
+        → (t && not (list_any (λ (h : Heading). eqb h.member m) (map house (present_on o number)))) ≡ false
+    by m i false e = refl
+    by m i true e =
+        rw (
+          any_map (λ (h : Heading). eqb h.member m) house (present_on o number),
+          some_any (λ (x : ℕ). eqb x m) (keep_mem (present o number) i e) (eq-eqb m m refl),
+        )
+        refl
+
+-- nobody is present after the last day of a month
+not_after : (o : Opening) (number m : ℕ) → Opened o → 1 ≤ m → m ≤ o.n → present o number m ≡ true → number ≤ 31
+unfolding present
+not_after o number m l low high there =
+    let (_, last) = both (leb (first_day o m) number) (leb number (last_day o m)) there in
+    omega (arith, leb-true _ _ last, l.last_few (m - 1) (omega (arith, low, high)))
+
+-- rows 4, 3, 5 and 6, where member m is present
+quiet_passes : (o : Opening) (number last m : ℕ) → opening_rows o ≡ clear → last < number → 1 ≤ m → m ≤ o.n → present o number m ≡ true
+    → Passes o last (quiet_day o number)
+unfolding bad_day_number
+quiet_passes o number last m e low one up there =
     let d = quiet_day o number in
-    let some : 1 ≤ o.n = (opening_leaves o e).members_some in
-    let few : o.n ≤ 32 = (opening_leaves o e).members_few in
-    let last_one = get_or-map-range_with_len house 1 o.n (o.n - 1) o.n nobody (omega arith) (omega arith) in
+    let p = present o number in
+    let those = present_on o number in
+    let l = opening_leaves o e in
+    let some : 1 ≤ length those = mem_some (keep_mem p (range_mem 1 o.n one (omega (arith, up))) there) in
+    let few : length those ≤ 32 = omega (arith, length-filter p (members o.n), count_by-le-length p (members o.n), length-range_with_len 1 o.n, l.members_few) in
+    let high : number ≤ 31 = not_after o number m l one up there in
     let all = accounts o.k d in
     record {
-      input = rw (count o number, length-replicate (o.n * (o.k + 1)) (pos 0), length-replicate {A = ℕ} o.n 0) (grind (arith, nat_tests));
+      input = rw (count o number, length-replicate (length those * (o.k + 1)) (pos 0), length-replicate {A = ℕ} (length those) 0) (grind (arith, nat_tests));
       number = grind (arith, nat_tests);
-      headings = good_headings o.n 1 o.n nobody refl (omega arith) ∙ sym (count o number);
-      complete =
-          rw (any_found (λ h. eqb h.member o.n) d.headings nobody (o.n - 1) (omega (arith, count o number)) (rw last_one (eq-eqb o.n o.n refl))) refl;
+      headings = good_headings o number 1 o.n nobody (omega arith) (omega arith) (λ m h k. absurd (let no_way : ⊥ = omega (arith, h, k) in no_way)) ∙ sym (count o number);
+      complete = none_missing o number;
       amounts =
           position_or_len_is bad_amount all (length all) no_account (omega arith)
           (λ i l. each o number (λ a. bad_amount a ≡ false) (good_amounts o.k) (get_or all i no_account) (mem_at all no_account l))
@@ -141,9 +196,10 @@ total_zero o number =
 
 -- ---- in every open period, whatever its days
 
-pub there_is_one : (g : Register) (number : ℕ) → g.status ≡ Open → bad_opening g.held ≡ false → last_number g.days < number → number ≤ 31
+pub there_is_one : (g : Register) (number m : ℕ) → g.status ≡ Open → opening_rows g.held ≡ clear → last_number g.days < number
+    → 1 ≤ m → m ≤ g.held.n → present g.held number m ≡ true
     → (d : DayInput) × (d.terms.number ≡ number) × AcceptedWithout g d (5 * g.held.n)
-there_is_one g number status within low high =
+there_is_one g number m status within low one up there =
     let d = quiet_day g.held number in
-    let passes = day_accepted g d (5 * g.held.n) status refl (quiet_passes g.held number (last_number g.days) within low high) in
+    let passes = day_accepted g d (5 * g.held.n) status refl (quiet_passes g.held number (last_number g.days) m within low one up there) in
     (d, refl, record { passes = passes; without = total_zero g.held number })

@@ -2,7 +2,7 @@
 -- It is left out of D and of the mean. Its day number counts for the rising order. Where all days are like this, closing answers as in
 -- Change 2; the bounds on charges rest on the remaining days. Number 7 no longer occurs." `WithoutLosses` is the claim. The bounds are demand
 -- 3's, whose `Covers` goes by the days that count.
-use Rattle.std.specs.Prelude.{◌≡◌, false, ℕ, ◌*◌, ◌≤◌, ◌<◌, length}
+use Rattle.std.specs.Prelude.{◌≡◌, true, false, ℕ, ◌*◌, ◌≤◌, ◌<◌, length}
 use Rattle.std.specs.List.{AllByRecursion}
 use mathlib.Core.List.{List, [], ◌∷◌, ◌++◌, map, flat_map}
 use seplogic.Ra.Ura.{Ura}
@@ -13,11 +13,11 @@ use types.Logic.{Logic}
 use contract.Monad.{Fun}
 use Rattle.methodology.specs.declared.Status.TheVariants.{Open}
 use Rattle.methodology.specs.declared.Opening.{Opening}
-use Rattle.methodology.specs.Account.{DayInput, Account, members, accounts}
+use Rattle.methodology.specs.Account.{DayInput, Account, members, present, accounts}
 use Rattle.methodology.specs.Member.{loss}
 use Rattle.methodology.specs.Day.{total, own_max_eul}
 use Rattle.methodology.specs.Contribution.{KeptDay, highest, counted}
-use Rattle.methodology.specs.Refusals.{clear, bad_opening, bad_input}
+use Rattle.methodology.specs.Refusals.{clear, opening_rows, bad_input}
 use Rattle.methodology.specs.Register.{Call, Register, start, last_number, refusal, step, Answer, accepted, refused, answer, buffer}
 use Rattle.validation.specs.Passing.{Passes}
 use Rattle.period.specs.declared.Period.{Period}
@@ -103,8 +103,10 @@ pub record WithoutLosses : Type 2 where
   -- "Such a day is now accepted": a day that rows 2 to 6 let pass is, whatever its losses
   pub day_accepted : (g : Register) (d : DayInput) (room : ℕ) → g.status ≡ Open → room ≡ 5 * g.held.n → Passes g.held (last_number g.days) d
       → refusal g (Call.day d room) ≡ clear
-  -- and in every open period, of an opening that row 1 lets pass, there is one that is, under any number above the last up to 31
-  pub there_is_one : (g : Register) (number : ℕ) → g.status ≡ Open → bad_opening g.held ≡ false → last_number g.days < number → number ≤ 31
+  -- and in every open period, of an opening that rows 1 and 10 let pass, there is one that is, under any number above the last on which somebody
+  -- is present
+  pub there_is_one : (g : Register) (number m : ℕ) → g.status ≡ Open → opening_rows g.held ≡ clear → last_number g.days < number
+      → 1 ≤ m → m ≤ g.held.n → present g.held number m ≡ true
       → (d : DayInput) × (d.terms.number ≡ number) × AcceptedWithout g d (5 * g.held.n)
   -- where T is 0 so is each loss, and the day's own Max EUL
   pub losses_none : (o : Opening) (accts : List Account) (m : ℕ) → 1 ≤ m → m ≤ o.n → total o accts ≡ 0 → loss o.k accts m ≡ 0
