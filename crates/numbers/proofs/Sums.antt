@@ -9,7 +9,7 @@ use Prim.Native.Nat.{ℕ, zero, suc, ◌+◌, ◌*◌, ◌≤◌, ◌<◌, max}
 use native.Mathlib.Omega.{arith}
 use native.Mathlib.Numerals.{add-one}
 use lib.Dec.{eqb}
-use lib.IntN.{ℤ, nat_abs, ◌+ℤ◌, +ℤ_idl, +ℤ_idr, +ℤ_assoc, +ℤ_comm}
+use lib.IntN.{ℤ, pos, nat_abs, ◌+ℤ◌, +ℤ_idl, +ℤ_idr, +ℤ_assoc, +ℤ_comm}
 use lib.Signed.{◌≤ℤ◌}
 use lib.ListN.{length, get_or, take, drop, take-append-drop}
 use lib.Seq.{take-suc}
@@ -122,6 +122,13 @@ unfolding Σ
     by true e = omega arith
     by false e = omega arith
 
+pub Σ-left_out : {A : Type 0} (p : A → Bool) (xs : List A) (f : A → ℕ) → ((x : A) → x ∈ xs → p x ≡ false → f x ≡ 0) → Σ xs f ≡ Σ (filter p xs) f
+Σ-left_out p xs f none = Σ-eq xs f _ (λ x i. by (p x) refl (none x i)) ∙ sym (Σ-keep p xs f)
+  where
+    by : {x : _} (t : Bool) → p x ≡ t → (p x ≡ false → f x ≡ 0) → f x ≡ cond t (f x) 0
+    by true e h = refl
+    by false e h = h e
+
 pub Σ-or : {A : Type 0} (p q : A → Bool) (xs : List A) (f : A → ℕ) → Σ (filter (λ x. p x || q x) xs) f ≤ Σ (filter p xs) f + Σ (filter q xs) f
 Σ-or p q xs f = rw (Σ-keep _ xs f, Σ-keep p xs f, Σ-keep q xs f, ← Σ-add) (Σ-mono xs _ _ (λ x m. by (p x) (q x) (f x)))
   where
@@ -169,6 +176,16 @@ pub Σℤ-map : {A B : Type 0} (g : A → B) (xs : List A) (f : B → ℤ) → �
 unfolding Σℤ
 Σℤ-map g [] f = refl
 Σℤ-map g (x ∷ xs) f = ap (λ (z : ℤ). f (g x) +ℤ z) (Σℤ-map g xs f)
+
+-- what fails a test adds 0
+pub Σℤ-left_out : {A : Type 0} (p : A → Bool) (xs : List A) (f : A → ℤ) → ((x : A) → x ∈ xs → p x ≡ false → f x ≡ pos 0) → Σℤ xs f ≡ Σℤ (filter p xs) f
+unfolding Σℤ
+Σℤ-left_out p [] f none = refl
+Σℤ-left_out p (x ∷ xs) f none = by (p x) (none x (here refl)) refl (Σℤ-left_out p xs f (λ y m. none y (there m)))
+  where
+    by : (t : Bool) → (p x ≡ false → f x ≡ pos 0) → p x ≡ t → Σℤ xs f ≡ Σℤ (filter p xs) f → f x +ℤ Σℤ xs f ≡ Σℤ (cond t (x ∷ filter p xs) (filter p xs)) f
+    by true h e s = ap (λ (z : ℤ). f x +ℤ z) s
+    by false h e s = ap (λ (z : ℤ). z +ℤ Σℤ xs f) (h e) ∙ +ℤ_idl (Σℤ xs f) ∙ s
 
 -- a permutation changes nothing
 +ℤ_swap : (x y s : ℤ) → x +ℤ (y +ℤ s) ≡ y +ℤ (x +ℤ s)

@@ -12,7 +12,7 @@ use lib.Seq.{drop-cons}
 use Rattle.std.proofs.lemmas.Bool.Decides.{nat_tests}
 use Rattle.methodology.specs.declared.Heading.{Heading}
 use Rattle.methodology.specs.declared.Opening.{Opening}
-use Rattle.methodology.specs.Account.{present, nobody, kind_u}
+use Rattle.methodology.specs.Account.{present, nobody, kind_h, kind_u}
 use Rattle.methodology.specs.Refusals.{passed_over, bad_heading, first_bad_heading}
 
 -- the search: one heading further, at a bad one, and at the end
@@ -37,6 +37,7 @@ pub record Fine (o : Opening) (number : ℕ) (prev h : Heading) : Type 0 where
   pub there : present o number h.member ≡ true
   pub rising : prev.member ≤ h.member
   pub none_over : passed_over o number prev.member h.member ≡ false
+  pub house : prev.member < h.member → h.kind ≡ kind_h
   pub kind : h.kind ≤ kind_u
 
 pub fine : (o : Opening) (number : ℕ) (prev h : Heading) → bad_heading o number prev h ≡ false → Fine o number prev h
@@ -48,6 +49,7 @@ fine o number prev h e =
       there = grind (arith, nat_tests);
       rising = grind (arith, nat_tests);
       none_over = grind (arith, nat_tests);
+      house = grind (arith, nat_tests);
       kind = grind (arith, nat_tests);
     }
 

@@ -1,14 +1,14 @@
 -- What rows 1 and 10 of the refusal table leave of an opening, in facts: each of their tests failed.
-use mathlib.Core.Path.{◌≡◌}
-use mathlib.Core.Bool.{false, not}
-use Prim.Native.Nat.{ℕ, ◌+◌, ◌-◌, ◌<◌}
+use mathlib.Core.Path.{◌≡◌, subst, ◌∙◌}
+use mathlib.Core.Bool.{Bool, true, false, not}
+use Prim.Native.Nat.{ℕ, ◌+◌, ◌-◌, ◌≤◌, ◌<◌}
 use native.Mathlib.Omega.{arith}
 use lib.Dec.{ltb}
 use lib.ListN.{length, get_or}
 use Rattle.std.specs.List.{list_any, position_or_len}
 use Rattle.std.proofs.lemmas.Bool.Decides.{nat_tests}
 use Rattle.std.proofs.lemmas.List.FromFn.{length-range_with_len, get_or-range_with_len}
-use Rattle.std.proofs.lemmas.List.Sums.{fails_before_first, prefix_len-le-length}
+use Rattle.std.proofs.lemmas.List.Sums.{passes_at_first, fails_before_first, prefix_len-le-length}
 use Rattle.numbers.proofs.Lists.{any_false, mem_at}
 use Rattle.methodology.specs.declared.Opening.{Opening}
 use Rattle.methodology.specs.declared.Refusal.TheVariants.{BadOpening, BadPresence}
@@ -17,13 +17,18 @@ use Rattle.methodology.specs.Refusals.{clear, group_outside, bad_opening, bad_pr
 use Rattle.methodology.proofs.Passed.{passed, inside}
 use Rattle.validation.specs.Passing.{Opened}
 
--- row 10's, at the member whose days stand in place i
-presence_at : (o : Opening) → position_or_len (λ m. bad_presence (first_day o m) (last_day o m)) (members o.n) ≡ o.n → (i : ℕ) → i < o.n
-    → bad_presence (get_or o.firsts i 0) (get_or o.lasts i 0) ≡ false
-presence_at o e i h =
-    let bad = λ (m : ℕ). bad_presence (first_day o m) (last_day o m) in
-    let place : 1 + i - 1 ≡ i = omega arith in
-    rw (get_or-range_with_len 1 o.n i 0 h, place) at (fails_before_first bad (members o.n) i 0 (omega (arith, e)))
+-- a search among the numbers 1 to n: the one that is found passes, and none below it does
+module _ (p : ℕ → Bool) (n : ℕ) where
+  pub found_passes : position_or_len p (members n) < n → p (position_or_len p (members n) + 1) ≡ true
+  found_passes h =
+      let first = position_or_len p (members n) in
+      subst (λ (m : ℕ). p m ≡ true) (get_or-range_with_len 1 n first 0 h ∙ omega arith)
+      (passes_at_first p (members n) 0 (omega (arith, h, length-range_with_len 1 n)))
+
+  pub below_fails : (m : ℕ) → 1 ≤ m → m ≤ n → m ≤ position_or_len p (members n) → p m ≡ false
+  below_fails m low high below =
+      subst (λ (m : ℕ). p m ≡ false) (get_or-range_with_len 1 n (m - 1) 0 (omega (arith, low, high)) ∙ omega (arith, low))
+      (fails_before_first p (members n) (m - 1) 0 (omega (arith, low, below)))
 
 -- the lists of days, which row 1 leaves n long
 pub days_long : (o : Opening) → bad_opening o ≡ false → (length o.firsts ≡ o.n) × (length o.lasts ≡ o.n)
@@ -36,7 +41,12 @@ opening_leaves o e =
     let bad10 = position_or_len (λ m. bad_presence (first_day o m) (last_day o m)) (members o.n) in
     let (e1, r) = passed BadOpening (bad_opening o) _ e in
     let (e10, _) = passed (BadPresence (bad10 + 1)) (ltb bad10 o.n) clear r in
+    let bad = λ (m : ℕ). bad_presence (first_day o m) (last_day o m) in
     let all : bad10 ≡ o.n = grind (arith, nat_tests, prefix_len-le-length (λ m. not (bad_presence (first_day o m) (last_day o m))) (members o.n), length-range_with_len 1 o.n) in
+    let presence_at : (i : ℕ) → i < o.n → bad_presence (get_or o.firsts i 0) (get_or o.lasts i 0) ≡ false =
+    λ i h.
+    let place : i + 1 - 1 ≡ i = omega arith in
+    rw place at (below_fails bad o.n (i + 1) (omega arith) (omega (arith, h)) (omega (arith, h, all))) in
     let long : length o.groups ≡ o.n = grind (arith, nat_tests) in
     let groups : list_any group_outside o.groups ≡ false = grind (arith, nat_tests) in
     record {
@@ -48,7 +58,7 @@ opening_leaves o e =
       group_few = λ i h. (inside _ _ (get_or o.groups i 0) (any_false group_outside groups (mem_at o.groups 0 (omega arith)))).1;
       firsts_long = (days_long o e1).0;
       lasts_long = (days_long o e1).1;
-      first_some = λ i h. let b = presence_at o all i h in grind (arith, nat_tests);
-      in_order = λ i h. let b = presence_at o all i h in grind (arith, nat_tests);
-      last_few = λ i h. let b = presence_at o all i h in grind (arith, nat_tests);
+      first_some = λ i h. let b = presence_at i h in grind (arith, nat_tests);
+      in_order = λ i h. let b = presence_at i h in grind (arith, nat_tests);
+      last_few = λ i h. let b = presence_at i h in grind (arith, nat_tests);
     }

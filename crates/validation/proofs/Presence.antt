@@ -10,10 +10,10 @@ use lib.ListN.{length, get_or}
 use borrow.Author.Tests.{ltb-false, lt-ltb, le-ltb, ltb-true, eqb-true, eqb-false, ne_eqb}
 use Rattle.std.specs.List.{list_any}
 use Rattle.std.proofs.lemmas.Bool.Decides.{nat_tests}
-use Rattle.numbers.proofs.Lists.{◌∈◌, mem_at, by_index, by_steps, mem_range, range_mem, any_eq, some_any, none_any}
+use Rattle.numbers.proofs.Lists.{◌∈◌, mem_at, any_false, by_index, by_steps, mem_range, range_mem, any_eq, some_any, none_any}
 use Rattle.methodology.specs.declared.Opening.{Opening}
 use Rattle.methodology.specs.declared.Heading.{Heading}
-use Rattle.methodology.specs.Account.{members, present, nobody}
+use Rattle.methodology.specs.Account.{members, present, nobody, kind_h}
 use Rattle.methodology.specs.Refusals.{passed_over, first_bad_heading, last_missing}
 use Rattle.validation.proofs.Headings.{Fine, all_fine}
 
@@ -46,8 +46,15 @@ module _ (o : Opening) (number : ℕ) where
       at_each : (x : ℕ) → Bool → (ltb (m - 1) x && ltb x to && present o number x) ≡ (ltb (m + 1 - 1) x && ltb x to && present o number x)
       at_each x t = grind (arith, nat_tests)
 
-abbrev pub has_account : List Heading → (m : ℕ) → Bool
+abbrev has_account : List Heading → (m : ℕ) → Bool
 has_account hs m = list_any (λ (h : Heading). eqb h.member m) hs
+
+abbrev has_house : List Heading → (m : ℕ) → Bool
+has_house hs m = list_any (λ (h : Heading). eqb h.member m && eqb h.kind kind_h) hs
+
+-- a house account is an account
+with_house : (hs : List Heading) (m : ℕ) → has_account hs m ≡ false → has_house hs m ≡ false
+with_house hs m e = none_any _ hs (λ h i. rw (any_false (λ (h : Heading). eqb h.member m) e i) refl)
 
 module _ (o : Opening) (number : ℕ) (hs : List Heading) (good : first_bad_heading o number nobody hs ≡ length hs) where
   fine_at : (i : ℕ) → i < length hs → Fine o number (get_or (nobody ∷ hs) i nobody) (get_or hs i nobody)
@@ -64,8 +71,8 @@ module _ (o : Opening) (number : ℕ) (hs : List Heading) (good : first_bad_head
       by h true q there = absurd (true≢false (sym there ∙ ap (present o number) (eqb-true h.member m q) ∙ e))
       by h false q there = refl
 
-  -- a member that is there, and not after the account before index i, has one
-  up_to : (m : ℕ) → 1 ≤ m → m ≤ o.n → present o number m ≡ true → (i : ℕ) → i ≤ length hs → m ≤ (get_or (nobody ∷ hs) i nobody).member → has_account hs m ≡ true
+  -- a member that is there, and not after the account before index i, has its house account
+  up_to : (m : ℕ) → 1 ≤ m → m ≤ o.n → present o number m ≡ true → (i : ℕ) → i ≤ length hs → m ≤ (get_or (nobody ∷ hs) i nobody).member → has_house hs m ≡ true
   up_to m some few there zero l h = let no_way : ⊥ = omega (arith, some, h) in absurd no_way
   up_to m some few there (suc i) l h = by (up_to m some few there i (omega (arith, l))) (ltb prev m) (eqb next m) refl refl
     where
@@ -75,9 +82,12 @@ module _ (o : Opening) (number : ℕ) (hs : List Heading) (good : first_bad_head
       next : ℕ
       next = (get_or hs i nobody).member
 
-      by : (m ≤ prev → has_account hs m ≡ true) → (s t : Bool) → ltb prev m ≡ s → eqb next m ≡ t → has_account hs m ≡ true
+      by : (m ≤ prev → has_house hs m ≡ true) → (s t : Bool) → ltb prev m ≡ s → eqb next m ≡ t → has_house hs m ≡ true
       by earlier false t q r = earlier (ltb-false prev m q)
-      by earlier true true q r = some_any _ (mem_at hs nobody (omega (arith, l))) r
+      by earlier true true q r =
+          let here : i < length hs = omega (arith, l) in
+          let first : prev < next = omega (arith, ltb-true prev m q, eqb-true next m r) in
+          some_any _ (mem_at hs nobody here) (rw (r, (fine_at i here).house first) refl)
       by earlier true false q r =
           let before : ltb m next ≡ true = lt-ltb m next (omega (arith, h, eqb-false next m r)) in
           absurd (true≢false (sym (over_at o number prev m next (range_mem 1 o.n some (omega (arith, few))) q before there) ∙ (fine_at i (omega (arith, l))).none_over))
@@ -107,4 +117,39 @@ module _ (o : Opening) (number : ℕ) (hs : List Heading) (good : first_bad_head
       by m k true true true e₁ e₂ e₃ = absurd (true≢false (sym e₂ ∙ below_last last e m (ltb-true top m e₃)))
       by m k true false true e₁ e₂ e₃ = grind (arith, nat_tests)
       by m k true false false e₁ e₂ e₃ =
-          absurd (true≢false (sym (up_to m k.0 (omega (arith, k.1)) e₁ (suc last) (omega (arith, e)) (ltb-false top m e₃)) ∙ e₂))
+          absurd (true≢false (sym (up_to m k.0 (omega (arith, k.1)) e₁ (suc last) (omega (arith, e)) (ltb-false top m e₃)) ∙ with_house hs m e₂))
+
+  -- a complete day: who is there has an account and a house account, and nobody else has
+  module _ (some : 1 ≤ length hs) (complete : last_missing o number hs ≡ false) where
+    account_of_present : (m : ℕ) → 1 ≤ m → m ≤ o.n → present o number m ≡ true → has_account hs m ≡ true
+    unfolding last_missing
+    account_of_present m low high e =
+        by (has_account hs m) refl (any_false (λ (m : ℕ). present o number m && not (has_account hs m)) complete (range_mem 1 o.n low (omega (arith, high))))
+      where
+        by : (t : Bool) → has_account hs m ≡ t → (present o number m && not (has_account hs m)) ≡ false → t ≡ true
+        by true q f = refl
+        by false q f = absurd (true≢false (rw (e, q) at f))
+
+    pub account_where_present : (m : ℕ) → 1 ≤ m → m ≤ o.n → has_account hs m ≡ present o number m
+    account_where_present m low high = by (present o number m) refl
+      where
+        by : (t : Bool) → present o number m ≡ t → has_account hs m ≡ t
+        by true e = account_of_present m low high e
+        by false e = no_account_if m e
+
+    abbrev last : ℕ
+    last = length hs - 1
+
+    abbrev top : ℕ
+    top = (get_or hs last nobody).member
+
+    pub house_where_present : (m : ℕ) → 1 ≤ m → m ≤ o.n → has_house hs m ≡ present o number m
+    house_where_present m low high = by (present o number m) refl
+      where
+        by : (t : Bool) → present o number m ≡ t → has_house hs m ≡ t
+        by true e = in_order (ltb top m) refl (account_of_present m low high e)
+          where
+            in_order : (t : Bool) → ltb top m ≡ t → has_account hs m ≡ true → has_house hs m ≡ true
+            in_order true q there = absurd (true≢false (sym there ∙ below_last last (omega (arith, some)) m (ltb-true top m q)))
+            in_order false q there = up_to m low high e (suc last) (omega (arith, some)) (ltb-false top m q)
+        by false e = with_house hs m (no_account_if m e)
