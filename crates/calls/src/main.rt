@@ -1,15 +1,15 @@
 // One list of calls on a period, from a fresh one on: each call gets the period that the one before returned. It shows every row of
 // document 01's refusal table that a call can meet, by each of its conditions, and each two rows that follow one another in an order of
-// precedence; among them accepted calls, whose figures show that a refused one left nothing behind; and eight months, seven of them opened
-// after a closing. Two of these have not begun, and one has days without losses alone.
+// precedence; among them accepted calls, whose figures show that a refused one left nothing behind; and nine months, eight of them opened
+// after a closing. Two of these have not begun, and one has days without losses alone. In the last one a member joins and one leaves.
 //
-// A call prints its number and what it says: accepted with its figures, or refused with the row and, in rows 5 and 6, the index. A day and
-// a closing then print the buffer that they were lent, which was filled with 7. The numbers stand at the calls, so that a reader finds
-// each in the stored output, which was worked out from the documents, by a recalculation and for calls 31 to 33 by hand, not taken from the
-// program.
+// A call prints its number and what it says: accepted with its figures, or refused with the row and, in rows 5 and 6, the index, in row 10 the
+// member's number. A day and a closing then print the buffer that they were lent, which was filled with 7. The numbers stand at the calls, so
+// that a reader finds each in the stored output, which was worked out from the documents, by a recalculation and for calls 31 to 33 by hand,
+// not taken from the program.
 #![tactic(auto)]
 
-ghost use Rattle.std.specs.Prelude.{◌≤◌, ◌<◌, get_or};
+ghost use Rattle.std.specs.Prelude.{◌≤◌, ◌<◌, length, get_or};
 
 use methodology::{Day, DayTerms, Heading, KIND_A, KIND_H, KIND_R, KIND_U, Refusal};
 use period::{ClosingReturns, DayReturns, Period, Reply};
@@ -51,7 +51,7 @@ struct Calls<'a, P: Print> {
 }
 
 impl<'a, P: Print> Calls<'a, P> {
-    // Prints a call's number and the row that refused it, with its index in rows 5 and 6.
+    // Prints a call's number and the row that refused it, with its index in rows 5 and 6 and the member's number in row 10.
     fn refused(&self, call: u64, refusal: Refusal) -> io::Result<()> {
         let rt = self.rt;
         let row = refusal.number();
@@ -62,9 +62,17 @@ impl<'a, P: Print> Calls<'a, P> {
     }
 
     // Each call prints what it says, and keeps the period that is returned. One function for each: what they return is of another type.
-    fn opening(&mut self, call: u64, n: u64, k: u64, groups: &[u64]) -> io::Result<()> {
+    fn opening_for(
+        &mut self,
+        call: u64,
+        n: u64,
+        k: u64,
+        groups: &[u64],
+        firsts: &[u64],
+        lasts: &[u64],
+    ) -> io::Result<()> {
         let rt = self.rt;
-        let Reply { period, outcome } = self.period.opening(n, k, groups);
+        let Reply { period, outcome } = self.period.opening(n, k, groups, firsts, lasts);
         self.period = period;
         match outcome {
             Ok(()) => println!(rt; "{call}\taccepted"),
@@ -98,6 +106,19 @@ impl<'a, P: Print> Calls<'a, P> {
             Err(refusal) => self.refused(call, refusal)?,
         }
         put_rows(rt, out, 3)
+    }
+
+    // An opening with everybody present on all days.
+    fn opening(&mut self, call: u64, n: u64, k: u64, groups: &[u64]) -> io::Result<()>
+        requires { n ≤ 33 }
+    {
+        let all = n as usize;
+        self.opening_for(call, n, k, groups, &[1; 33][..all], &[31; 33][..all])
+    }
+
+    // An opening of three members, one scenario and no groups, with these first and last days.
+    fn three_for(&mut self, call: u64, firsts: [u64; 3], lasts: [u64; 3]) -> io::Result<()> {
+        self.opening_for(call, 3, 1, &NONE, &firsts, &lasts)
     }
 
     // A day of three members, each with its house account alone.
@@ -196,6 +217,27 @@ impl<'a, P: Print> Calls<'a, P> {
         margins[at] = margin;
         extras[at] = extra;
         self.houses(call, 30, all, margins, extras)
+    }
+
+    // A day of three members, with these accounts and NPVs and no margins.
+    fn those(
+        &mut self,
+        call: u64,
+        number: u64,
+        headings: &[Heading],
+        npvs: &[i64],
+    ) -> io::Result<()>
+        requires { length headings.now ≤ 3 }
+    {
+        let count = headings.len();
+        let day = Day {
+            terms: DayTerms { number },
+            headings,
+            npvs,
+            margins: &NONE[..count],
+            extras: &NONE[..count],
+        };
+        self.day(call, &day, &mut [7; 15])
     }
 
     // Two houses: the first loses 100,000,000 under scenario 1 only, the second 80,000,000 under 2 only.
@@ -503,6 +545,59 @@ impl<'a, P: Print> Calls<'a, P> {
         self.closing(118, &mut [7; 9])?;
         self.closing(119, &mut [7; 9])
     }
+
+    // Row 1 by first and last days, and row 10. None of these opens the period, which is closed.
+    fn days_of_members(&mut self) -> io::Result<()> {
+        // Row 1 by the length of either list; also where 10 holds with it.
+        self.opening_for(120, 3, 1, &NONE, &[1, 10], &[31, 31, 10])?;
+        self.opening_for(121, 3, 1, &NONE, &[1, 10, 1, 1], &[31, 31, 10])?;
+        self.opening_for(122, 3, 1, &NONE, &[1, 10, 1], &[31, 31])?;
+        self.opening_for(123, 3, 1, &NONE, &[1, 10, 1], &[31, 31, 10, 10])?;
+        self.opening_for(124, 3, 1, &NONE, &[0, 10, 1], &[31, 31])?;
+        self.opening_for(125, 3, 17, &NONE, &[1, 10, 1], &[31, 31, 32])?;
+        self.opening_for(126, 3, 1, &[0, 33, 0], &[1, 10, 1], &[31, 9, 10])?;
+        // Row 10 by a first day, by a last one, and by a first above the last.
+        self.three_for(127, [0, 10, 1], [31, 31, 10])?;
+        self.three_for(128, [1, 32, 1], [31, 32, 10])?;
+        self.three_for(129, [1, 10, u64::MAX], [31, 31, u64::MAX])?;
+        self.three_for(130, [0, 10, 1], [0, 31, 10])?;
+        self.three_for(131, [1, 10, 1], [31, 32, 10])?;
+        self.three_for(132, [1, 10, 1], [31, 31, u64::MAX])?;
+        self.three_for(133, [1, 10, 11], [31, 31, 10])?;
+        // The first such member of several, and the last of 32.
+        self.three_for(134, [1, 1, 0], [31, 32, 31])?;
+        let mut lasts = [31; 32];
+        lasts[31] = 0;
+        self.opening_for(135, 32, 1, &[0; 32], &[1; 32], &lasts)?;
+        self.good(136, 1)
+    }
+
+    // A month of three members: the second joins on the tenth, the third leaves on it.
+    fn joining(&mut self) -> io::Result<()> {
+        self.three_for(137, [1, 10, 1], [31, 31, 10])?;
+        // Row 2, also where 10 holds with it.
+        self.three_for(138, [0, 10, 1], [31, 31, 10])?;
+        // The ninth, without the second. Row 5 by an account of it, by the first one's skipped, and by the third one's missing.
+        self.good(139, 9)?;
+        self.those(140, 9, &[house(3)], &[60, 0])?;
+        self.those(141, 9, &[house(1)], &[40, 0])?;
+        // With an account of it 4 comes before 5, and so does 3.
+        self.with_lengths(142, 9, [3, 6, 3, 3], 14)?;
+        self.good(143, 32)?;
+        let first_and_third = [40_000_000, 0, 60_000_000, 0];
+        self.those(144, 9, &[house(1), house(3)], &first_and_third)?;
+        // The tenth, with all three: the second's may not be skipped.
+        self.those(145, 10, &[house(1), house(3)], &first_and_third)?;
+        let all = [10_000_000, 0, 20_000_000, 0, 40_000_000, 0];
+        self.houses(146, 10, all, NONE, NONE)?;
+        // The eleventh, without the third: by an account of it, and by the second one's missing. Its Max EUL is the highest.
+        self.good(147, 11)?;
+        self.those(148, 11, &[house(1), account(1, 1, KIND_R)], &[60, 0, 5, 0])?;
+        let first_and_second = [120_000_000, 0, 110_000_000, 0];
+        self.those(149, 11, &[house(1), house(2)], &first_and_second)?;
+        // The day on which one of the two is absent counts as share 0 in its mean: D is 3 for all.
+        self.closing(150, &mut [7; 9])
+    }
 }
 
 fn main(rt: HostRuntime) -> io::Result<()> {
@@ -521,5 +616,7 @@ fn main(rt: HostRuntime) -> io::Result<()> {
     calls.most_members()?;
     calls.most_accounts()?;
     calls.not_begun()?;
-    calls.without_losses()
+    calls.without_losses()?;
+    calls.days_of_members()?;
+    calls.joining()
 }

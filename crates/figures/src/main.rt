@@ -21,10 +21,11 @@ struct Figure<'a> {
 }
 
 impl<'a> Figure<'a> {
-    // The period, opened.
+    // The period, opened, with everybody present on all days.
     fn opened(&self) -> Period {
+        let n = self.groups.len();
         Period::fresh()
-            .opening(self.groups.len() as u64, self.k, self.groups)
+            .opening(n as u64, self.k, self.groups, &[1; 6][..n], &[31; 6][..n])
             .period
     }
 

@@ -108,9 +108,12 @@ opening_of n k groups = record { n = n; k = k; groups = groups; firsts = replica
 abbrev pub brings : (n k : ℕ) → (groups : List ℕ) → Call
 brings n k groups = opening (opening_of n k groups)
 
--- the call of n members in no group under one scenario, with their first and last days
+-- the call with each of its lists; and of n members in no group under one scenario, with their first and last days
+abbrev pub brings_lists : (n k : ℕ) → (groups firsts lasts : List ℕ) → Call
+brings_lists n k groups firsts lasts = opening (record { n = n; k = k; groups = groups; firsts = firsts; lasts = lasts })
+
 abbrev pub brings_days : (n : ℕ) → (firsts lasts : List ℕ) → Call
-brings_days n firsts lasts = opening (record { n = n; k = 1; groups = replicate n 0; firsts = firsts; lasts = lasts })
+brings_days n firsts lasts = brings_lists n 1 (replicate n 0) firsts lasts
 
 -- a call with what it must answer and leave in its buffer
 pub record Exchange : Type 0 where

@@ -1,17 +1,17 @@
 -- Calls worked by the register: document 01's printed month, with the shares of document 02's Change 6; M on each of three days; a
 -- month whose own Max EULs fall and rise; months that have not begun; months with days without losses, and of such days alone; shares of a few
--- parts; a period whose calls meet every condition of the refusal table from both sides, and every pair of its order of precedence. One table,
--- one theorem: each answer, and each number left in a buffer, is the one due. By computation. The figures were worked out from the documents by
--- a recalculation of its own. The largest periods are in WorkedLimits.antt.
+-- parts; a period whose calls meet every condition of the refusal table from both sides, and every pair of its order of precedence; months in
+-- which members join or leave. One table, one theorem: each answer, and each number left in a buffer, is the one due. By computation. The figures
+-- were worked out from the documents by a recalculation of its own. The largest periods are in WorkedLimits.antt.
 use mathlib.Core.Path.{◌≡◌, refl}
-use mathlib.Core.List.{List, [], ◌∷◌, ◌++◌, map}
-use Prim.Native.Nat.{ℕ, ◌*◌}
+use mathlib.Core.List.{List, [], ◌∷◌, ◌++◌, map, flat_map}
+use Prim.Native.Nat.{ℕ, ◌+◌, ◌-◌, ◌*◌}
 use lib.IntN.{ℤ, pos}
 use lib.ListN.{length, drop, replicate}
 use Rattle.methodology.specs.declared.Status.TheVariants.{Fresh, Open, Closed}
 use Rattle.methodology.specs.declared.Opening.{Opening}
 use Rattle.methodology.specs.Register.{Call, opening, day, closing, Register, start, step, accepted, refused, refused_at}
-use Rattle.methodology.proofs.Samples.{computed, H, R, A, U, Line, acct, minus, losing, from_limit_to_limit, houses, clients, day_of, opening_of, brings, Exchange, ◌gets◌, ◌gets◌writing◌, played}
+use Rattle.methodology.proofs.Samples.{computed, H, R, A, U, Line, acct, minus, losing, from_limit_to_limit, houses, clients, day_of, opening_of, brings, brings_days, brings_lists, Exchange, ◌gets◌, ◌gets◌writing◌, played}
 
 -- the printed month
 abbrev printed : List Exchange
@@ -853,6 +853,564 @@ last_of_four =
     ∷ [])
     ∷ []
 
+-- ---- members who join or leave in the month (document 02, Change 7)
+
+-- an account that loses a dollar, and a member's house account that does
+abbrev dollar : (member number kind : ℕ) → Line
+dollar member number kind = losing member number kind (pos 1)
+
+abbrev own : (member : ℕ) → Line
+own member = dollar member 0 H
+
+-- a day of n members by its accounts; by the members that have one, which loses a dollar; and by what each of them loses
+abbrev with_lines : (n number : ℕ) → List Line → Call
+with_lines n number lines = day (day_of number lines) (5 * n)
+
+abbrev there : (n number : ℕ) → (those : List ℕ) → Call
+there n number those = with_lines n number (map own those)
+
+abbrev lost : (n number : ℕ) → (those : List (ℕ × ℕ)) → Call
+lost n number those = with_lines n number (map (λ l. losing l.0 0 H (pos l.1)) those)
+
+-- three members: the first is present all the month, the second joins on the tenth, the third leaves on it
+abbrev joins : Call
+joins = brings_days 3 (1 ∷ 10 ∷ 1 ∷ []) (31 ∷ 31 ∷ 10 ∷ [])
+
+-- Row 1: first days, last days or both not n long: none, one too few, one too many, and as many together as there should be.
+abbrev not_n_long : List Call
+not_n_long =
+    brings_days 3 [] (31 ∷ 31 ∷ 10 ∷ [])
+    ∷ brings_days 3 (1 ∷ 10 ∷ []) (31 ∷ 31 ∷ 10 ∷ [])
+    ∷ brings_days 3 (1 ∷ 10 ∷ 1 ∷ 1 ∷ []) (31 ∷ 31 ∷ 10 ∷ [])
+    ∷ brings_days 3 (1 ∷ 10 ∷ 1 ∷ []) []
+    ∷ brings_days 3 (1 ∷ 10 ∷ 1 ∷ []) (31 ∷ 31 ∷ [])
+    ∷ brings_days 3 (1 ∷ 10 ∷ 1 ∷ []) (31 ∷ 31 ∷ 10 ∷ 10 ∷ [])
+    ∷ brings_days 3 [] []
+    ∷ brings_days 3 (1 ∷ 10 ∷ []) (31 ∷ 31 ∷ [])
+    ∷ brings_days 3 (replicate 4 1) (replicate 4 31)
+    ∷ brings_days 3 (1 ∷ 10 ∷ []) (replicate 4 31)
+    ∷ brings_days 3 (replicate 4 1) (31 ∷ 31 ∷ [])
+    ∷ brings_days 1 [] (31 ∷ [])
+    ∷ brings_days 1 (1 ∷ []) []
+    ∷ brings_days 1 (1 ∷ 1 ∷ []) (31 ∷ [])
+    ∷ brings_days 1 (1 ∷ []) (31 ∷ 31 ∷ [])
+    ∷ brings_days 32 (replicate 31 1) (replicate 32 31)
+    ∷ brings_days 32 (replicate 33 1) (replicate 32 31)
+    ∷ brings_days 32 (replicate 32 1) (replicate 31 31)
+    ∷ brings_days 32 (replicate 32 1) (replicate 33 31)
+    ∷ []
+
+-- 1 before 10: a bad day in the list that is not n long, be it the surplus one, or in the other list; and n, k, a group or the number of groups
+-- beside a bad day
+abbrev row_1_before_10 : List Call
+row_1_before_10 =
+    brings_days 3 (0 ∷ 10 ∷ []) (31 ∷ 31 ∷ 10 ∷ [])
+    ∷ brings_days 3 (1 ∷ 10 ∷ 1 ∷ 0 ∷ []) (31 ∷ 31 ∷ 10 ∷ [])
+    ∷ brings_days 3 (1 ∷ 10 ∷ []) (32 ∷ 31 ∷ 10 ∷ [])
+    ∷ brings_days 3 [] (32 ∷ 32 ∷ 32 ∷ [])
+    ∷ brings_days 3 (1 ∷ 10 ∷ 1 ∷ []) (31 ∷ 9 ∷ [])
+    ∷ brings_days 3 (1 ∷ 10 ∷ 1 ∷ []) (31 ∷ 31 ∷ 10 ∷ 32 ∷ [])
+    ∷ brings_days 3 (32 ∷ 10 ∷ 1 ∷ []) (31 ∷ 31 ∷ [])
+    ∷ brings_days 3 (1 ∷ 10 ∷ 11 ∷ []) (31 ∷ 31 ∷ 10 ∷ 31 ∷ [])
+    ∷ brings_days 0 (0 ∷ []) (31 ∷ [])
+    ∷ brings_days 33 (replicate 33 0) (replicate 33 31)
+    ∷ brings_lists 3 0 (0 ∷ 0 ∷ 0 ∷ []) (0 ∷ 10 ∷ 1 ∷ []) (31 ∷ 31 ∷ 10 ∷ [])
+    ∷ brings_lists 3 17 (0 ∷ 0 ∷ 0 ∷ []) (1 ∷ 10 ∷ 1 ∷ []) (32 ∷ 31 ∷ 10 ∷ [])
+    ∷ brings_lists 3 1 (0 ∷ 0 ∷ 33 ∷ []) (1 ∷ 10 ∷ 11 ∷ []) (31 ∷ 31 ∷ 10 ∷ [])
+    ∷ brings_lists 3 1 (33 ∷ 0 ∷ 0 ∷ []) (1 ∷ 10 ∷ 0 ∷ []) (31 ∷ 31 ∷ 10 ∷ [])
+    ∷ brings_lists 3 1 (0 ∷ 0 ∷ []) (1 ∷ 0 ∷ 1 ∷ []) (31 ∷ 31 ∷ 10 ∷ [])
+    ∷ brings_lists 3 1 (0 ∷ 0 ∷ 0 ∷ 0 ∷ []) (1 ∷ 10 ∷ 1 ∷ []) (31 ∷ 31 ∷ 32 ∷ [])
+    ∷ []
+
+-- n members present from the fifth to the ninth, but for member m
+abbrev but_for : (n m first last : ℕ) → Call
+but_for n m first last =
+    brings_days n (replicate (m - 1) 5 ++ (first ∷ replicate (n - m) 5)) (replicate (m - 1) 9 ++ (last ∷ replicate (n - m) 9))
+
+-- Bad days: a first above the last by one, and by more; either 0 or 32; both; and such as are good once 2^32 is taken away.
+abbrev bad_days : List (ℕ × ℕ)
+bad_days =
+    (10, 9)
+    ∷ (2, 1)
+    ∷ (31, 30)
+    ∷ (31, 1)
+    ∷ (0, 9)
+    ∷ (0, 31)
+    ∷ (1, 0)
+    ∷ (1, 32)
+    ∷ (31, 32)
+    ∷ (32, 31)
+    ∷ (0, 0)
+    ∷ (32, 32)
+    ∷ (0, 32)
+    ∷ (32, 0)
+    ∷ (4294967298, 4294967298)
+    ∷ (4294967298, 31)
+    ∷ (1, 4294967298)
+    ∷ []
+
+-- the last good ones, for each of three members; each is a period of its own
+abbrev last_good_days : List (ℕ × ℕ)
+last_good_days = (1, 1) ∷ (31, 31) ∷ (1, 31) ∷ (10, 10) ∷ (9, 10) ∷ (1, 2) ∷ (30, 31) ∷ []
+
+abbrev opened_for_days : List (List Exchange)
+opened_for_days = flat_map (λ m. map (λ d. (but_for 3 m d.0 d.1 gets accepted []) ∷ []) last_good_days) (1 ∷ 2 ∷ 3 ∷ [])
+
+-- Row 10, by each of three members; by several of them, whatever their faults, the first; by one of one, of two with groups and of 32.
+abbrev row_10 : List Exchange
+row_10 =
+    flat_map (λ m. map (λ d. but_for 3 m d.0 d.1 gets refused_at 10 m) bad_days) (1 ∷ 2 ∷ 3 ∷ [])
+    ++ (brings_days 3 (0 ∷ 0 ∷ 0 ∷ []) (31 ∷ 31 ∷ 31 ∷ []) gets refused_at 10 1
+    ∷ brings_days 3 (1 ∷ 0 ∷ 0 ∷ []) (31 ∷ 31 ∷ 31 ∷ []) gets refused_at 10 2
+    ∷ brings_days 3 (1 ∷ 1 ∷ 1 ∷ []) (31 ∷ 32 ∷ 32 ∷ []) gets refused_at 10 2
+    ∷ brings_days 3 (1 ∷ 0 ∷ 1 ∷ []) (32 ∷ 31 ∷ 31 ∷ []) gets refused_at 10 1
+    ∷ brings_days 3 (0 ∷ 1 ∷ 1 ∷ []) (31 ∷ 31 ∷ 32 ∷ []) gets refused_at 10 1
+    ∷ brings_days 3 (10 ∷ 0 ∷ 1 ∷ []) (9 ∷ 31 ∷ 31 ∷ []) gets refused_at 10 1
+    ∷ brings_days 3 (0 ∷ 10 ∷ 1 ∷ []) (31 ∷ 9 ∷ 31 ∷ []) gets refused_at 10 1
+    ∷ brings_days 3 (1 ∷ 10 ∷ 1 ∷ []) (31 ∷ 9 ∷ 32 ∷ []) gets refused_at 10 2
+    ∷ brings_days 3 (1 ∷ 1 ∷ 10 ∷ []) (31 ∷ 32 ∷ 9 ∷ []) gets refused_at 10 2
+    ∷ brings_days 3 (1 ∷ 32 ∷ 10 ∷ []) (31 ∷ 33 ∷ 9 ∷ []) gets refused_at 10 2
+    ∷ brings_days 1 (0 ∷ []) (31 ∷ []) gets refused_at 10 1
+    ∷ brings_days 1 (1 ∷ []) (32 ∷ []) gets refused_at 10 1
+    ∷ brings_lists 2 16 (32 ∷ 32 ∷ []) (1 ∷ 31 ∷ []) (31 ∷ 30 ∷ []) gets refused_at 10 2
+    ∷ but_for 32 32 10 9 gets refused_at 10 32
+    ∷ but_for 32 32 0 9 gets refused_at 10 32
+    ∷ but_for 32 31 5 32 gets refused_at 10 31
+    ∷ but_for 32 1 10 9 gets refused_at 10 1
+    ∷ brings_days 32 (replicate 16 1 ++ replicate 16 0) (replicate 32 31) gets refused_at 10 17
+    ∷ [])
+
+-- a fresh period: none of these opens it
+abbrev joins_fresh : List Exchange
+joins_fresh =
+    map (λ c. c gets refused 1) (not_n_long ++ row_1_before_10)
+    ++ (row_10
+    ++ (there 3 9 (1 ∷ 3 ∷ []) gets refused 2
+    ∷ there 3 6 (1 ∷ 2 ∷ 3 ∷ []) gets refused 2
+    ∷ closing 9 gets refused 2
+    ∷ joins gets accepted []
+    ∷ []))
+
+-- The period of `joins`, on the ninth, tenth, eleventh and last day. D is 3 for each member, and M that of a day on which the third is absent: by
+-- the mean of its own days the second would be charged more than the minimum, and by the M of its own days the third less.
+abbrev joins_open : List Exchange
+joins_open =
+    -- 2 before 1 and 10; what is held stays, whoever would be present by what these bring
+    map (λ c. c gets refused 2)
+    (joins
+    ∷ brings_days 3 (10 ∷ 1 ∷ 1 ∷ []) (31 ∷ 31 ∷ 8 ∷ [])
+    ∷ brings_days 3 (1 ∷ 10 ∷ []) (31 ∷ 31 ∷ 10 ∷ [])
+    ∷ brings_days 3 (1 ∷ 1 ∷ 0 ∷ []) (31 ∷ 31 ∷ 31 ∷ [])
+    ∷ brings_days 3 (1 ∷ 10 ∷ 1 ∷ []) (31 ∷ 9 ∷ 32 ∷ [])
+    ∷ but_for 3 1 10 9
+    ∷ but_for 32 32 0 9
+    ∷ [])
+    -- the ninth, without the second: its account is bad, as the first, between others and as the last, and a client's
+    ++ (there 3 9 (1 ∷ 2 ∷ 3 ∷ []) gets refused_at 5 1
+    ∷ there 3 9 (2 ∷ 3 ∷ []) gets refused_at 5 0
+    ∷ there 3 9 (2 ∷ []) gets refused_at 5 0
+    ∷ there 3 9 (1 ∷ 2 ∷ []) gets refused_at 5 1
+    ∷ with_lines 3 9 (own 1 ∷ dollar 1 1 R ∷ own 2 ∷ own 3 ∷ []) gets refused_at 5 2
+    ∷ with_lines 3 9 (own 1 ∷ dollar 2 1 R ∷ own 3 ∷ []) gets refused_at 5 1
+    ∷ with_lines 3 9 (own 1 ∷ own 2 ∷ dollar 2 1 R ∷ own 3 ∷ []) gets refused_at 5 1
+    ∷ with_lines 3 9 (own 1 ∷ dollar 1 1 R ∷ dollar 1 2 U ∷ dollar 2 1 A ∷ own 3 ∷ []) gets refused_at 5 3
+    -- a present one is skipped before it, or missing behind it
+    ∷ there 3 9 (3 ∷ []) gets refused_at 5 0
+    ∷ there 3 9 (1 ∷ []) gets refused_at 5 1
+    ∷ with_lines 3 9 (own 1 ∷ dollar 1 1 R ∷ dollar 1 2 A ∷ []) gets refused_at 5 3
+    -- the smallest index wins: another fault before it and after it
+    ∷ with_lines 3 9 (own 1 ∷ dollar 1 1 4 ∷ own 2 ∷ own 3 ∷ []) gets refused_at 5 1
+    ∷ with_lines 3 9 (dollar 1 0 R ∷ own 2 ∷ own 3 ∷ []) gets refused_at 5 0
+    ∷ with_lines 3 9 (own 1 ∷ own 2 ∷ own 3 ∷ dollar 3 65536 R ∷ []) gets refused_at 5 1
+    ∷ there 3 9 (1 ∷ 3 ∷ 2 ∷ []) gets refused_at 5 2
+    ∷ there 3 9 (1 ∷ 2 ∷ 3 ∷ 4 ∷ []) gets refused_at 5 1
+    ∷ there 3 9 (1 ∷ 3 ∷ 4 ∷ []) gets refused_at 5 2
+    -- 4 before 5, and an output for three members; 3 before 5; 5 before 6
+    ∷ day (day_of 9 (map own (1 ∷ 3 ∷ []))) 10 gets refused 4
+    ∷ day (day_of 9 (map own (1 ∷ 2 ∷ 3 ∷ []))) 10 gets refused 4
+    ∷ day (day_of 9 (map own (1 ∷ 2 ∷ 3 ∷ []))) 14 gets refused 4
+    ∷ there 3 9 [] gets refused 4
+    ∷ there 3 0 (1 ∷ 2 ∷ 3 ∷ []) gets refused 3
+    ∷ there 3 32 (1 ∷ 2 ∷ 3 ∷ []) gets refused 3
+    ∷ with_lines 3 9 (losing 1 0 H (pos 1000000000001) ∷ own 2 ∷ own 3 ∷ []) gets refused_at 5 1
+    ∷ with_lines 3 9 (losing 1 0 H (pos 1000000000001) ∷ []) gets refused_at 5 1
+    ∷ with_lines 3 9 (own 1 ∷ losing 3 0 H (pos 1000000000001) ∷ []) gets refused_at 6 1
+    ∷ lost 3 9 ((1, 40000000) ∷ (3, 60000000) ∷ [])
+    gets accepted (100000000 ∷ 60000000 ∷ [])
+    writing (40000000 ∷ 400000000000000 ∷ 2400000000 ∷ 2640000000 ∷ 5280000000
+    ∷ 0 ∷ 0 ∷ 0 ∷ 0 ∷ 0
+    ∷ 60000000 ∷ 600000000000000 ∷ 3600000000 ∷ 3960000000 ∷ 7920000000
+    ∷ [])
+    -- the tenth, with all three; the number before it has passed
+    ∷ there 3 9 (1 ∷ 2 ∷ 3 ∷ []) gets refused 3
+    ∷ there 3 8 (2 ∷ []) gets refused 3
+    ∷ there 3 10 (1 ∷ 3 ∷ []) gets refused_at 5 1
+    ∷ there 3 10 (2 ∷ 3 ∷ []) gets refused_at 5 0
+    ∷ there 3 10 (1 ∷ 2 ∷ []) gets refused_at 5 2
+    ∷ there 3 10 (1 ∷ []) gets refused_at 5 1
+    ∷ lost 3 10 ((1, 10000000) ∷ (2, 20000000) ∷ (3, 40000000) ∷ [])
+    gets accepted (70000000 ∷ 60000000 ∷ [])
+    writing (10000000 ∷ 142857142857143 ∷ 857142857 ∷ 942857143 ∷ 1885714286
+    ∷ 20000000 ∷ 285714285714286 ∷ 1714285714 ∷ 1885714286 ∷ 3771428571
+    ∷ 40000000 ∷ 571428571428572 ∷ 3428571429 ∷ 3771428571 ∷ 7542857143
+    ∷ [])
+    -- the eleventh, without the third
+    ∷ there 3 11 (1 ∷ 2 ∷ 3 ∷ []) gets refused_at 5 2
+    ∷ with_lines 3 11 (own 1 ∷ own 2 ∷ dollar 2 1 R ∷ own 3 ∷ []) gets refused_at 5 3
+    ∷ with_lines 3 11 (own 1 ∷ own 2 ∷ dollar 3 1 R ∷ []) gets refused_at 5 2
+    ∷ there 3 11 (1 ∷ 3 ∷ []) gets refused_at 5 1
+    ∷ there 3 11 (1 ∷ []) gets refused_at 5 1
+    ∷ with_lines 3 11 (own 1 ∷ dollar 1 1 R ∷ dollar 1 2 R ∷ []) gets refused_at 5 3
+    ∷ there 3 11 (2 ∷ []) gets refused_at 5 0
+    ∷ there 3 11 (2 ∷ 3 ∷ []) gets refused_at 5 0
+    ∷ there 3 11 (3 ∷ []) gets refused_at 5 0
+    ∷ lost 3 11 ((1, 120000000) ∷ (2, 110000000) ∷ [])
+    gets accepted (230000000 ∷ 120000000 ∷ [])
+    writing (120000000 ∷ 521739130434783 ∷ 6260869565 ∷ 6886956522 ∷ 13773913043
+    ∷ 110000000 ∷ 478260869565218 ∷ 5739130435 ∷ 6313043478 ∷ 12626086957
+    ∷ 0 ∷ 0 ∷ 0 ∷ 0 ∷ 0
+    ∷ [])
+    -- the last, without losses
+    ∷ there 3 31 (1 ∷ 2 ∷ 3 ∷ []) gets refused_at 5 2
+    ∷ there 3 31 (1 ∷ []) gets refused_at 5 1
+    ∷ lost 3 31 ((1, 0) ∷ (2, 0) ∷ []) gets accepted (0 ∷ 120000000 ∷ []) writing replicate 15 0
+    ∷ closing 6 gets refused 4
+    ∷ closing 9
+    gets accepted (3 ∷ 120000000 ∷ 151542858 ∷ [])
+    writing (46842237 ∷ 50000000 ∷ 100000000 ∷ 33614907 ∷ 50000000 ∷ 100000000 ∷ 51542858 ∷ 51542858 ∷ 103085716 ∷ [])
+    ∷ [])
+
+-- Closed: what 1 or 10 refuses leaves it so. Then openings with other days, and with fewer members: of the days before nothing is left.
+abbrev joins_closed : List Exchange
+joins_closed =
+    there 3 31 (1 ∷ 2 ∷ []) gets refused 2
+    ∷ map (λ c. c gets refused 1) (row_1_before_10)
+    ++ (but_for 3 1 0 9 gets refused_at 10 1
+    ∷ but_for 3 2 1 32 gets refused_at 10 2
+    ∷ but_for 3 3 10 9 gets refused_at 10 3
+    ∷ but_for 32 32 10 9 gets refused_at 10 32
+    ∷ brings_days 3 (1 ∷ 0 ∷ 0 ∷ []) (31 ∷ 31 ∷ 31 ∷ []) gets refused_at 10 2
+    ∷ there 3 6 (1 ∷ 2 ∷ 3 ∷ []) gets refused 2
+    ∷ closing 9 gets refused 2
+    ∷ brings_days 3 (10 ∷ 1 ∷ 11 ∷ []) (10 ∷ 9 ∷ 31 ∷ []) gets accepted []
+    ∷ there 3 9 (1 ∷ 3 ∷ []) gets refused_at 5 0
+    ∷ lost 3 9 ((2, 30) ∷ [])
+    gets accepted (30 ∷ 30 ∷ [])
+    writing (0 ∷ 0 ∷ 0 ∷ 0 ∷ 0 ∷ 30 ∷ 1000000000000000 ∷ 3000 ∷ 3300 ∷ 6600 ∷ 0 ∷ 0 ∷ 0 ∷ 0 ∷ 0 ∷ [])
+    ∷ there 3 10 (1 ∷ 2 ∷ 3 ∷ []) gets refused_at 5 1
+    ∷ lost 3 10 ((1, 50) ∷ [])
+    gets accepted (50 ∷ 50 ∷ [])
+    writing (50 ∷ 1000000000000000 ∷ 5000 ∷ 5500 ∷ 11000 ∷ 0 ∷ 0 ∷ 0 ∷ 0 ∷ 0 ∷ 0 ∷ 0 ∷ 0 ∷ 0 ∷ 0 ∷ [])
+    ∷ there 3 11 (1 ∷ 2 ∷ []) gets refused_at 5 0
+    ∷ lost 3 11 ((3, 20) ∷ [])
+    gets accepted (20 ∷ 50 ∷ [])
+    writing (0 ∷ 0 ∷ 0 ∷ 0 ∷ 0 ∷ 0 ∷ 0 ∷ 0 ∷ 0 ∷ 0 ∷ 20 ∷ 1000000000000000 ∷ 5000 ∷ 5500 ∷ 11000 ∷ [])
+    ∷ closing 9
+    gets accepted (3 ∷ 50 ∷ 150000000 ∷ [])
+    writing (19 ∷ 50000000 ∷ 100000000 ∷ 19 ∷ 50000000 ∷ 100000000 ∷ 19 ∷ 50000000 ∷ 100000000 ∷ [])
+    ∷ brings_days 2 (11 ∷ 1 ∷ []) (31 ∷ 31 ∷ []) gets accepted []
+    ∷ there 2 10 (1 ∷ 2 ∷ []) gets refused_at 5 0
+    ∷ lost 2 10 ((2, 4) ∷ []) gets accepted (4 ∷ 4 ∷ []) writing (0 ∷ 0 ∷ 0 ∷ 0 ∷ 0 ∷ 4 ∷ 1000000000000000 ∷ 400 ∷ 440 ∷ 880 ∷ [])
+    ∷ closing 6 gets accepted (1 ∷ 4 ∷ 100000000 ∷ []) writing (0 ∷ 50000000 ∷ 100000000 ∷ 5 ∷ 50000000 ∷ 100000000 ∷ [])
+    ∷ [])
+
+-- a day on which the one member loses a dollar
+abbrev a_dollar_on : (number : ℕ) → Exchange
+a_dollar_on number = there 1 number (1 ∷ []) gets accepted (1 ∷ 1 ∷ []) writing (1 ∷ 1000000000000000 ∷ 100 ∷ 110 ∷ 220 ∷ [])
+
+-- one member, on the days before and after those on which it is present, and on the first and the last of them
+abbrev alone : (first last : ℕ) → List Exchange
+alone first last =
+    brings_days 1 (first ∷ []) (last ∷ []) gets accepted []
+    ∷ there 1 (first - 1) (1 ∷ []) gets refused_at 5 0
+    ∷ a_dollar_on first
+    ∷ a_dollar_on last
+    ∷ there 1 (last + 1) (1 ∷ []) gets refused_at 5 0
+    ∷ closing 3 gets accepted (2 ∷ 1 ∷ 50000000 ∷ []) writing (2 ∷ 50000000 ∷ 100000000 ∷ [])
+    ∷ []
+
+-- one that is present on the first day alone, and one on the last alone
+abbrev first_day_alone : List Exchange
+first_day_alone =
+    brings_days 1 (1 ∷ []) (1 ∷ []) gets accepted []
+    ∷ a_dollar_on 1
+    ∷ there 1 2 (1 ∷ []) gets refused_at 5 0
+    ∷ []
+
+abbrev last_day_alone : List Exchange
+last_day_alone =
+    brings_days 1 (31 ∷ []) (31 ∷ []) gets accepted []
+    ∷ there 1 30 (1 ∷ []) gets refused_at 5 0
+    ∷ a_dollar_on 31
+    ∷ []
+
+-- Six members, of whom two in a row are absent on the seventh: between others, the first two, the last two. A present one is missing beside
+-- them, with an account of one of them and without.
+abbrev two_between : List Exchange
+two_between =
+    brings_days 6 (1 ∷ 1 ∷ 8 ∷ 8 ∷ 1 ∷ 1 ∷ []) (replicate 6 31) gets accepted []
+    ∷ there 6 7 (2 ∷ 5 ∷ 6 ∷ []) gets refused_at 5 0
+    ∷ there 6 7 (1 ∷ 5 ∷ 6 ∷ []) gets refused_at 5 1
+    ∷ there 6 7 (1 ∷ 2 ∷ 6 ∷ []) gets refused_at 5 2
+    ∷ there 6 7 (1 ∷ 2 ∷ 5 ∷ []) gets refused_at 5 3
+    ∷ there 6 7 (1 ∷ 6 ∷ []) gets refused_at 5 1
+    ∷ there 6 7 (5 ∷ 6 ∷ []) gets refused_at 5 0
+    ∷ there 6 7 (1 ∷ 2 ∷ []) gets refused_at 5 2
+    ∷ there 6 7 (1 ∷ 2 ∷ 3 ∷ 5 ∷ 6 ∷ []) gets refused_at 5 2
+    ∷ there 6 7 (1 ∷ 2 ∷ 4 ∷ 5 ∷ 6 ∷ []) gets refused_at 5 2
+    ∷ there 6 7 (1 ∷ 2 ∷ 3 ∷ 4 ∷ 5 ∷ 6 ∷ []) gets refused_at 5 2
+    ∷ there 6 7 (1 ∷ 3 ∷ 5 ∷ 6 ∷ []) gets refused_at 5 1
+    ∷ there 6 7 (1 ∷ 2 ∷ 4 ∷ 6 ∷ []) gets refused_at 5 2
+    ∷ there 6 7 (1 ∷ 2 ∷ 3 ∷ []) gets refused_at 5 2
+    ∷ lost 6 7 ((1, 1) ∷ (2, 2) ∷ (5, 3) ∷ (6, 4) ∷ [])
+    gets accepted (10 ∷ 4 ∷ [])
+    writing (1 ∷ 100000000000000 ∷ 40 ∷ 44 ∷ 88
+    ∷ 2 ∷ 200000000000000 ∷ 80 ∷ 88 ∷ 176
+    ∷ 0 ∷ 0 ∷ 0 ∷ 0 ∷ 0
+    ∷ 0 ∷ 0 ∷ 0 ∷ 0 ∷ 0
+    ∷ 3 ∷ 300000000000000 ∷ 120 ∷ 132 ∷ 264
+    ∷ 4 ∷ 400000000000000 ∷ 160 ∷ 176 ∷ 352
+    ∷ [])
+    ∷ []
+
+abbrev two_at_first : List Exchange
+two_at_first =
+    brings_days 6 (8 ∷ 8 ∷ 1 ∷ 1 ∷ 1 ∷ 1 ∷ []) (replicate 6 31) gets accepted []
+    ∷ there 6 7 (4 ∷ 5 ∷ 6 ∷ []) gets refused_at 5 0
+    ∷ there 6 7 (5 ∷ 6 ∷ []) gets refused_at 5 0
+    ∷ there 6 7 (3 ∷ 5 ∷ 6 ∷ []) gets refused_at 5 1
+    ∷ there 6 7 (3 ∷ 4 ∷ 5 ∷ []) gets refused_at 5 3
+    ∷ there 6 7 (1 ∷ 3 ∷ 4 ∷ 5 ∷ 6 ∷ []) gets refused_at 5 0
+    ∷ there 6 7 (2 ∷ 3 ∷ 4 ∷ 5 ∷ 6 ∷ []) gets refused_at 5 0
+    ∷ there 6 7 (2 ∷ 4 ∷ 5 ∷ 6 ∷ []) gets refused_at 5 0
+    ∷ with_lines 6 7 (dollar 1 1 R ∷ own 3 ∷ own 4 ∷ own 5 ∷ own 6 ∷ []) gets refused_at 5 0
+    ∷ lost 6 7 ((3, 1) ∷ (4, 2) ∷ (5, 3) ∷ (6, 4) ∷ [])
+    gets accepted (10 ∷ 4 ∷ [])
+    writing (0 ∷ 0 ∷ 0 ∷ 0 ∷ 0
+    ∷ 0 ∷ 0 ∷ 0 ∷ 0 ∷ 0
+    ∷ 1 ∷ 100000000000000 ∷ 40 ∷ 44 ∷ 88
+    ∷ 2 ∷ 200000000000000 ∷ 80 ∷ 88 ∷ 176
+    ∷ 3 ∷ 300000000000000 ∷ 120 ∷ 132 ∷ 264
+    ∷ 4 ∷ 400000000000000 ∷ 160 ∷ 176 ∷ 352
+    ∷ [])
+    ∷ []
+
+abbrev two_at_last : List Exchange
+two_at_last =
+    brings_days 6 (replicate 6 1) (31 ∷ 31 ∷ 31 ∷ 31 ∷ 6 ∷ 6 ∷ []) gets accepted []
+    ∷ there 6 7 (1 ∷ 2 ∷ 3 ∷ []) gets refused_at 5 3
+    ∷ there 6 7 (1 ∷ 2 ∷ []) gets refused_at 5 2
+    ∷ there 6 7 (1 ∷ 2 ∷ 4 ∷ []) gets refused_at 5 2
+    ∷ with_lines 6 7 (own 1 ∷ dollar 1 1 R ∷ own 2 ∷ dollar 2 1 R ∷ own 3 ∷ []) gets refused_at 5 5
+    ∷ there 6 7 (1 ∷ 2 ∷ 3 ∷ 4 ∷ 5 ∷ []) gets refused_at 5 4
+    ∷ there 6 7 (1 ∷ 2 ∷ 3 ∷ 4 ∷ 6 ∷ []) gets refused_at 5 4
+    ∷ there 6 7 (1 ∷ 2 ∷ 3 ∷ 5 ∷ []) gets refused_at 5 3
+    ∷ there 6 7 (1 ∷ 2 ∷ 3 ∷ 6 ∷ []) gets refused_at 5 3
+    ∷ lost 6 7 ((1, 1) ∷ (2, 2) ∷ (3, 3) ∷ (4, 4) ∷ [])
+    gets accepted (10 ∷ 4 ∷ [])
+    writing (1 ∷ 100000000000000 ∷ 40 ∷ 44 ∷ 88
+    ∷ 2 ∷ 200000000000000 ∷ 80 ∷ 88 ∷ 176
+    ∷ 3 ∷ 300000000000000 ∷ 120 ∷ 132 ∷ 264
+    ∷ 4 ∷ 400000000000000 ∷ 160 ∷ 176 ∷ 352
+    ∷ 0 ∷ 0 ∷ 0 ∷ 0 ∷ 0
+    ∷ 0 ∷ 0 ∷ 0 ∷ 0 ∷ 0
+    ∷ [])
+    ∷ []
+
+-- every other one absent, from the second on and from the first on
+abbrev every_other : List Exchange
+every_other =
+    brings_days 6 (1 ∷ 8 ∷ 1 ∷ 8 ∷ 1 ∷ 8 ∷ []) (replicate 6 31) gets accepted []
+    ∷ there 6 7 (3 ∷ 5 ∷ []) gets refused_at 5 0
+    ∷ there 6 7 (1 ∷ 5 ∷ []) gets refused_at 5 1
+    ∷ there 6 7 (1 ∷ 3 ∷ []) gets refused_at 5 2
+    ∷ there 6 7 (1 ∷ []) gets refused_at 5 1
+    ∷ there 6 7 (1 ∷ 2 ∷ 3 ∷ 5 ∷ []) gets refused_at 5 1
+    ∷ there 6 7 (1 ∷ 3 ∷ 4 ∷ 5 ∷ []) gets refused_at 5 2
+    ∷ there 6 7 (1 ∷ 3 ∷ 5 ∷ 6 ∷ []) gets refused_at 5 3
+    ∷ there 6 7 (1 ∷ 4 ∷ 5 ∷ []) gets refused_at 5 1
+    ∷ there 6 7 (1 ∷ 3 ∷ 6 ∷ []) gets refused_at 5 2
+    ∷ lost 6 7 ((1, 1) ∷ (3, 2) ∷ (5, 1) ∷ [])
+    gets accepted (4 ∷ 2 ∷ [])
+    writing (1 ∷ 250000000000000 ∷ 50 ∷ 55 ∷ 110
+    ∷ 0 ∷ 0 ∷ 0 ∷ 0 ∷ 0
+    ∷ 2 ∷ 500000000000000 ∷ 100 ∷ 110 ∷ 220
+    ∷ 0 ∷ 0 ∷ 0 ∷ 0 ∷ 0
+    ∷ 1 ∷ 250000000000000 ∷ 50 ∷ 55 ∷ 110
+    ∷ 0 ∷ 0 ∷ 0 ∷ 0 ∷ 0
+    ∷ [])
+    ∷ []
+
+abbrev every_other_from_1 : List Exchange
+every_other_from_1 =
+    brings_days 6 (replicate 6 1) (6 ∷ 31 ∷ 6 ∷ 31 ∷ 6 ∷ 31 ∷ []) gets accepted []
+    ∷ there 6 7 (4 ∷ 6 ∷ []) gets refused_at 5 0
+    ∷ there 6 7 (2 ∷ 6 ∷ []) gets refused_at 5 1
+    ∷ there 6 7 (2 ∷ 4 ∷ []) gets refused_at 5 2
+    ∷ there 6 7 (2 ∷ []) gets refused_at 5 1
+    ∷ there 6 7 (1 ∷ 2 ∷ 4 ∷ 6 ∷ []) gets refused_at 5 0
+    ∷ there 6 7 (2 ∷ 3 ∷ 4 ∷ 6 ∷ []) gets refused_at 5 1
+    ∷ there 6 7 (2 ∷ 4 ∷ 5 ∷ 6 ∷ []) gets refused_at 5 2
+    ∷ there 6 7 (1 ∷ 4 ∷ 6 ∷ []) gets refused_at 5 0
+    ∷ there 6 7 (2 ∷ 4 ∷ 5 ∷ []) gets refused_at 5 2
+    ∷ lost 6 7 ((2, 1) ∷ (4, 2) ∷ (6, 1) ∷ [])
+    gets accepted (4 ∷ 2 ∷ [])
+    writing (0 ∷ 0 ∷ 0 ∷ 0 ∷ 0
+    ∷ 1 ∷ 250000000000000 ∷ 50 ∷ 55 ∷ 110
+    ∷ 0 ∷ 0 ∷ 0 ∷ 0 ∷ 0
+    ∷ 2 ∷ 500000000000000 ∷ 100 ∷ 110 ∷ 220
+    ∷ 0 ∷ 0 ∷ 0 ∷ 0 ∷ 0
+    ∷ 1 ∷ 250000000000000 ∷ 50 ∷ 55 ∷ 110
+    ∷ [])
+    ∷ []
+
+-- nobody present on the seventh: that day cannot be accepted
+abbrev nobody_there : List Exchange
+nobody_there =
+    brings_days 3 (8 ∷ 1 ∷ 9 ∷ []) (31 ∷ 6 ∷ 31 ∷ []) gets accepted []
+    ∷ there 3 7 [] gets refused 4
+    ∷ day (day_of 7 []) 0 gets refused 4
+    ∷ there 3 7 (1 ∷ []) gets refused_at 5 0
+    ∷ there 3 7 (2 ∷ []) gets refused_at 5 0
+    ∷ there 3 7 (3 ∷ []) gets refused_at 5 0
+    ∷ there 3 7 (1 ∷ 2 ∷ 3 ∷ []) gets refused_at 5 0
+    ∷ with_lines 3 7 (dollar 3 1 R ∷ []) gets refused_at 5 0
+    ∷ there 3 7 (4 ∷ []) gets refused_at 5 0
+    ∷ lost 3 8 ((1, 7) ∷ [])
+    gets accepted (7 ∷ 7 ∷ [])
+    writing (7 ∷ 1000000000000000 ∷ 700 ∷ 770 ∷ 1540 ∷ 0 ∷ 0 ∷ 0 ∷ 0 ∷ 0 ∷ 0 ∷ 0 ∷ 0 ∷ 0 ∷ 0 ∷ [])
+    ∷ closing 9
+    gets accepted (1 ∷ 7 ∷ 150000000 ∷ [])
+    writing (8 ∷ 50000000 ∷ 100000000 ∷ 0 ∷ 50000000 ∷ 100000000 ∷ 0 ∷ 50000000 ∷ 100000000 ∷ [])
+    ∷ []
+
+-- the last of 32 present alone
+abbrev last_of_32 : List Exchange
+last_of_32 =
+    brings_days 32 (replicate 31 2 ++ (1 ∷ [])) (replicate 32 31) gets accepted []
+    ∷ there 32 1 (31 ∷ []) gets refused_at 5 0
+    ∷ there 32 1 (31 ∷ 32 ∷ []) gets refused_at 5 0
+    ∷ there 32 1 (32 ∷ []) gets accepted (1 ∷ 1 ∷ []) writing (replicate 155 0 ++ (1 ∷ 1000000000000000 ∷ 100 ∷ 110 ∷ 220 ∷ []))
+    ∷ there 32 2 (32 ∷ []) gets refused_at 5 0
+    ∷ []
+
+-- The second is present on one of three days that count: the others count as share 0 in its mean. By the mean of its own day it would be charged
+-- more than the minimum. M is that of a day on which it is absent.
+abbrev on_one_day : List Exchange
+on_one_day =
+    brings_days 2 (1 ∷ 10 ∷ []) (31 ∷ 10 ∷ []) gets accepted []
+    ∷ there 2 9 (1 ∷ 2 ∷ []) gets refused_at 5 1
+    ∷ lost 2 9 ((1, 200000000) ∷ [])
+    gets accepted (200000000 ∷ 200000000 ∷ [])
+    writing (200000000 ∷ 1000000000000000 ∷ 20000000000 ∷ 22000000000 ∷ 44000000000 ∷ 0 ∷ 0 ∷ 0 ∷ 0 ∷ 0 ∷ [])
+    ∷ there 2 10 (1 ∷ []) gets refused_at 5 1
+    ∷ lost 2 10 ((1, 75000000) ∷ (2, 30000000) ∷ [])
+    gets accepted (105000000 ∷ 200000000 ∷ [])
+    writing (75000000 ∷ 714285714285715 ∷ 14285714286 ∷ 15714285714 ∷ 31428571429
+    ∷ 30000000 ∷ 285714285714286 ∷ 5714285714 ∷ 6285714286 ∷ 12571428571
+    ∷ [])
+    ∷ there 2 11 (1 ∷ 2 ∷ []) gets refused_at 5 1
+    ∷ lost 2 11 ((1, 300000000) ∷ [])
+    gets accepted (300000000 ∷ 300000000 ∷ [])
+    writing (300000000 ∷ 1000000000000000 ∷ 30000000000 ∷ 33000000000 ∷ 66000000000 ∷ 0 ∷ 0 ∷ 0 ∷ 0 ∷ 0 ∷ [])
+    ∷ closing 6
+    gets accepted (3 ∷ 300000000 ∷ 348571429 ∷ [])
+    writing (298571429 ∷ 298571429 ∷ 597142858 ∷ 31428572 ∷ 50000000 ∷ 100000000 ∷ [])
+    ∷ []
+
+-- Two members present together on one of three days: the first joins, the second leaves. By the mean of its own days the first would be charged
+-- more than the minimum.
+abbrev two_of_three : List Exchange
+two_of_three =
+    brings_days 2 (5 ∷ 1 ∷ []) (31 ∷ 6 ∷ []) gets accepted []
+    ∷ lost 2 4 ((2, 40000000) ∷ [])
+    gets accepted (40000000 ∷ 40000000 ∷ [])
+    writing (0 ∷ 0 ∷ 0 ∷ 0 ∷ 0 ∷ 40000000 ∷ 1000000000000000 ∷ 4000000000 ∷ 4400000000 ∷ 8800000000 ∷ [])
+    ∷ lost 2 6 ((1, 10000000) ∷ (2, 100000000) ∷ [])
+    gets accepted (110000000 ∷ 100000000 ∷ [])
+    writing (10000000 ∷ 90909090909091 ∷ 909090909 ∷ 1000000000 ∷ 2000000000
+    ∷ 100000000 ∷ 909090909090910 ∷ 9090909091 ∷ 10000000000 ∷ 20000000000
+    ∷ [])
+    ∷ there 2 7 (1 ∷ 2 ∷ []) gets refused_at 5 1
+    ∷ lost 2 7 ((1, 30000000) ∷ [])
+    gets accepted (30000000 ∷ 100000000 ∷ [])
+    writing (30000000 ∷ 1000000000000000 ∷ 10000000000 ∷ 11000000000 ∷ 22000000000 ∷ 0 ∷ 0 ∷ 0 ∷ 0 ∷ 0 ∷ [])
+    ∷ closing 6
+    gets accepted (3 ∷ 100000000 ∷ 120000001 ∷ [])
+    writing (40000001 ∷ 50000000 ∷ 100000000 ∷ 70000001 ∷ 70000001 ∷ 140000002 ∷ [])
+    ∷ []
+
+-- Members absent on all days that count, one present on a day without losses, one on no day: raw 0, and funded the minimum. Then two of the
+-- last days, in a month that has not begun.
+abbrev on_no_day : List Exchange
+on_no_day =
+    brings_days 3 (1 ∷ 4 ∷ 20 ∷ []) (31 ∷ 5 ∷ 20 ∷ []) gets accepted []
+    ∷ lost 3 4 ((1, 0) ∷ (2, 0) ∷ []) gets accepted (0 ∷ 0 ∷ []) writing replicate 15 0
+    ∷ lost 3 7 ((1, 200000000) ∷ [])
+    gets accepted (200000000 ∷ 200000000 ∷ [])
+    writing (200000000 ∷ 1000000000000000 ∷ 20000000000 ∷ 22000000000 ∷ 44000000000 ∷ 0 ∷ 0 ∷ 0 ∷ 0 ∷ 0 ∷ 0 ∷ 0 ∷ 0 ∷ 0 ∷ 0 ∷ [])
+    ∷ lost 3 9 ((1, 0) ∷ []) gets accepted (0 ∷ 200000000 ∷ []) writing replicate 15 0
+    ∷ lost 3 19 ((1, 100000000) ∷ [])
+    gets accepted (100000000 ∷ 200000000 ∷ [])
+    writing (100000000 ∷ 1000000000000000 ∷ 20000000000 ∷ 22000000000 ∷ 44000000000 ∷ 0 ∷ 0 ∷ 0 ∷ 0 ∷ 0 ∷ 0 ∷ 0 ∷ 0 ∷ 0 ∷ 0 ∷ [])
+    ∷ there 3 20 (1 ∷ []) gets refused_at 5 1
+    ∷ lost 3 21 ((1, 30000000) ∷ [])
+    gets accepted (30000000 ∷ 200000000 ∷ [])
+    writing (30000000 ∷ 1000000000000000 ∷ 20000000000 ∷ 22000000000 ∷ 44000000000 ∷ 0 ∷ 0 ∷ 0 ∷ 0 ∷ 0 ∷ 0 ∷ 0 ∷ 0 ∷ 0 ∷ 0 ∷ [])
+    ∷ closing 9
+    gets accepted (3 ∷ 200000000 ∷ 320000000 ∷ [])
+    writing (220000000 ∷ 220000000 ∷ 440000000 ∷ 0 ∷ 50000000 ∷ 100000000 ∷ 0 ∷ 50000000 ∷ 100000000 ∷ [])
+    ∷ brings_days 2 (31 ∷ 30 ∷ []) (31 ∷ 31 ∷ []) gets accepted []
+    ∷ none_of_two
+    ∷ []
+
+-- Affiliates 1, 3 and 5, with others between: without the third, with all of them, without the fifth, and without the first and the fifth. On
+-- each day Max EUL is the sum of those present.
+abbrev affiliates : List Exchange
+affiliates =
+    brings_lists 5 1 (7 ∷ 0 ∷ 7 ∷ 0 ∷ 7 ∷ []) (1 ∷ 1 ∷ 10 ∷ 1 ∷ 1 ∷ []) (21 ∷ 31 ∷ 31 ∷ 31 ∷ 20 ∷ []) gets accepted []
+    ∷ lost 5 9 ((1, 40) ∷ (2, 45) ∷ (4, 5) ∷ (5, 30) ∷ [])
+    gets accepted (120 ∷ 70 ∷ [])
+    writing (40 ∷ 333333333333334 ∷ 2333 ∷ 2567 ∷ 5133
+    ∷ 45 ∷ 375000000000000 ∷ 2625 ∷ 2888 ∷ 5775
+    ∷ 0 ∷ 0 ∷ 0 ∷ 0 ∷ 0
+    ∷ 5 ∷ 41666666666667 ∷ 292 ∷ 321 ∷ 642
+    ∷ 30 ∷ 250000000000000 ∷ 1750 ∷ 1925 ∷ 3850
+    ∷ [])
+    ∷ lost 5 10 ((1, 10) ∷ (2, 15) ∷ (3, 50) ∷ (4, 5) ∷ (5, 20) ∷ [])
+    gets accepted (100 ∷ 80 ∷ [])
+    writing (10 ∷ 100000000000000 ∷ 800 ∷ 880 ∷ 1760
+    ∷ 15 ∷ 150000000000000 ∷ 1200 ∷ 1320 ∷ 2640
+    ∷ 50 ∷ 500000000000000 ∷ 4000 ∷ 4400 ∷ 8800
+    ∷ 5 ∷ 50000000000000 ∷ 400 ∷ 440 ∷ 880
+    ∷ 20 ∷ 200000000000000 ∷ 1600 ∷ 1760 ∷ 3520
+    ∷ [])
+    ∷ lost 5 21 ((1, 20) ∷ (2, 10) ∷ (3, 80) ∷ (4, 5) ∷ [])
+    gets accepted (115 ∷ 100 ∷ [])
+    writing (20 ∷ 173913043478261 ∷ 1739 ∷ 1913 ∷ 3826
+    ∷ 10 ∷ 86956521739131 ∷ 870 ∷ 957 ∷ 1913
+    ∷ 80 ∷ 695652173913044 ∷ 6957 ∷ 7652 ∷ 15304
+    ∷ 5 ∷ 43478260869566 ∷ 435 ∷ 478 ∷ 957
+    ∷ 0 ∷ 0 ∷ 0 ∷ 0 ∷ 0
+    ∷ [])
+    ∷ lost 5 22 ((2, 60) ∷ (3, 110) ∷ (4, 5) ∷ [])
+    gets accepted (175 ∷ 110 ∷ [])
+    writing (0 ∷ 0 ∷ 0 ∷ 0 ∷ 0
+    ∷ 60 ∷ 342857142857143 ∷ 3771 ∷ 4149 ∷ 8297
+    ∷ 110 ∷ 628571428571429 ∷ 6914 ∷ 7606 ∷ 15211
+    ∷ 5 ∷ 28571428571429 ∷ 314 ∷ 346 ∷ 691
+    ∷ 0 ∷ 0 ∷ 0 ∷ 0 ∷ 0
+    ∷ [])
+    ∷ closing 15
+    gets accepted (4 ∷ 110 ∷ 250000000 ∷ [])
+    writing (19 ∷ 50000000 ∷ 100000000
+    ∷ 29 ∷ 50000000 ∷ 100000000
+    ∷ 56 ∷ 50000000 ∷ 100000000
+    ∷ 5 ∷ 50000000 ∷ 100000000
+    ∷ 14 ∷ 50000000 ∷ 100000000
+    ∷ [])
+    ∷ []
+
 -- each list of calls starts from a fresh register
 pub lists : List (List Exchange)
 lists =
@@ -877,8 +1435,25 @@ lists =
     ∷ every_kind
     ∷ two_groups
     ∷ last_of_four
+    ∷ (joins_fresh ++ (joins_open ++ joins_closed))
+    ∷ alone 2 3
+    ∷ alone 10 20
+    ∷ alone 29 30
+    ∷ first_day_alone
+    ∷ last_day_alone
+    ∷ two_between
+    ∷ two_at_first
+    ∷ two_at_last
+    ∷ every_other
+    ∷ every_other_from_1
+    ∷ nobody_there
+    ∷ last_of_32
+    ∷ on_one_day
+    ∷ two_of_three
+    ∷ on_no_day
+    ∷ affiliates
     ∷ beside_three_days
-    ++ (halves ++ (at_minimum ++ opened_at_limits))
+    ++ (halves ++ (at_minimum ++ (opened_at_limits ++ opened_for_days)))
 
 pub worked_calls : map (played start) lists ≡ lists
 unfolding lists played computed
@@ -886,7 +1461,7 @@ worked_calls = refl
 
 -- What the register holds at the start and after an opening, a day and a closing, with a day and without; a day without losses is kept
 -- with its number. No answer tells fresh from closed, or has to do with what is held before the first opening; document 01 says it all the
--- same.
+-- same. First and last days are held as the groups are, and a refused opening leaves a fresh register fresh and a closed one closed.
 abbrev held_two : Opening
 held_two = opening_of 2 1 (0 ∷ 0 ∷ [])
 
@@ -899,6 +1474,18 @@ after_day = step after_opening (losses 5 (400000000 ∷ 200000000 ∷ []))
 abbrev after_without_losses : Register
 after_without_losses = step after_day (losses 9 (0 ∷ 0 ∷ []))
 
+abbrev held_joins : Opening
+held_joins = record { n = 3; k = 1; groups = 0 ∷ 0 ∷ 0 ∷ []; firsts = 1 ∷ 10 ∷ 1 ∷ []; lasts = 31 ∷ 31 ∷ 10 ∷ [] }
+
+abbrev after_joins : Register
+after_joins = step start joins
+
+abbrev after_ninth : Register
+after_ninth = step after_joins (there 3 9 (1 ∷ 3 ∷ []))
+
+abbrev joins_ended : Register
+joins_ended = record { status = Closed; held = held_joins; days = after_ninth.days }
+
 pub registers :
     (start ≡ record { status = Fresh; held = opening_of 0 0 []; days = [] })
     × (after_opening ≡ record { status = Open; held = held_two; days = [] })
@@ -908,5 +1495,15 @@ pub registers :
     × (step after_day (closing 6) ≡ record { status = Closed; held = held_two; days = after_day.days })
     × (step after_without_losses (closing 6) ≡ record { status = Closed; held = held_two; days = after_without_losses.days })
     × (step after_opening (closing 6) ≡ record { status = Closed; held = held_two; days = [] })
+    × (after_joins ≡ record { status = Open; held = held_joins; days = [] })
+    × (step start (but_for 3 3 0 9) ≡ start)
+    × (after_ninth.held ≡ held_joins)
+    × (map (λ d. d.number) after_ninth.days ≡ 9 ∷ [])
+    × (step after_ninth (but_for 3 3 5 9) ≡ after_ninth)
+    × (step after_ninth (there 3 10 (1 ∷ 3 ∷ [])) ≡ after_ninth)
+    × (step after_ninth (closing 9) ≡ joins_ended)
+    × (step joins_ended (but_for 3 3 0 9) ≡ joins_ended)
+    × (step joins_ended (brings_days 2 (1 ∷ 5 ∷ []) (9 ∷ 31 ∷ []))
+    ≡ record { status = Open; held = record { n = 2; k = 1; groups = 0 ∷ 0 ∷ []; firsts = 1 ∷ 5 ∷ []; lasts = 9 ∷ 31 ∷ [] }; days = [] })
 unfolding computed
-registers = (refl, refl, refl, refl, refl, refl, refl, refl)
+registers = (refl, refl, refl, refl, refl, refl, refl, refl, refl, refl, refl, refl, refl, refl, refl, refl, refl)

@@ -108,7 +108,8 @@ impl Refusal {
         ensures { result ≡ row_index self }
     {
         match self {
-            Refusal::BadHeading(index) | Refusal::BadAmount(index) | Refusal::BadPresence(index) => Some(index),
+            Refusal::BadHeading(index) | Refusal::BadAmount(index) | Refusal::BadPresence(index) =>
+                Some(index),
             _ => None,
         }
     }

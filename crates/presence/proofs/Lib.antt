@@ -1,2 +1,4 @@
 pub mod Present
 pub mod Presence
+pub mod Before
+pub mod AsBefore

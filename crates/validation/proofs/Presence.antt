@@ -93,7 +93,7 @@ module _ (o : Opening) (number : ℕ) (hs : List Heading) (good : first_bad_head
           absurd (true≢false (sym (over_at o number prev m next (range_mem 1 o.n some (omega (arith, few))) q before there) ∙ (fine_at i (omega (arith, l))).none_over))
 
   -- no account is of a member after the last one's
-  below_last : (last : ℕ) → last + 1 ≡ length hs → (m : ℕ) → (get_or hs last nobody).member < m → has_account hs m ≡ false
+  pub below_last : (last : ℕ) → last + 1 ≡ length hs → (m : ℕ) → (get_or hs last nobody).member < m → has_account hs m ≡ false
   below_last last e m l =
       let top = (get_or hs last nobody).member in
       let climbs = λ (i : ℕ) (h : i < length hs).
