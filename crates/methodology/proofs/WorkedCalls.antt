@@ -1411,9 +1411,10 @@ affiliates =
     ∷ [])
     ∷ []
 
--- each list of calls starts from a fresh register
-pub lists : List (List Exchange)
-lists =
+-- Each list of calls starts from a fresh register. Those in which everybody is present from 1 to 31, and those with members that join or leave
+-- and first and last days that are refused.
+unfoldable pub everybody_lists : List (List Exchange)
+everybody_lists =
     printed
     ∷ three_days worst middling_after least_after
     ∷ three_days middling worst least_after
@@ -1435,7 +1436,12 @@ lists =
     ∷ every_kind
     ∷ two_groups
     ∷ last_of_four
-    ∷ (joins_fresh ++ (joins_open ++ joins_closed))
+    ∷ beside_three_days
+    ++ (halves ++ (at_minimum ++ opened_at_limits))
+
+unfoldable pub presence_lists : List (List Exchange)
+presence_lists =
+    (joins_fresh ++ (joins_open ++ joins_closed))
     ∷ alone 2 3
     ∷ alone 10 20
     ∷ alone 29 30
@@ -1452,11 +1458,13 @@ lists =
     ∷ two_of_three
     ∷ on_no_day
     ∷ affiliates
-    ∷ beside_three_days
-    ++ (halves ++ (at_minimum ++ (opened_at_limits ++ opened_for_days)))
+    ∷ opened_for_days
+
+abbrev lists : List (List Exchange)
+lists = everybody_lists ++ presence_lists
 
 pub worked_calls : map (played start) lists ≡ lists
-unfolding lists played computed
+unfolding everybody_lists presence_lists played computed
 worked_calls = refl
 
 -- What the register holds at the start and after an opening, a day and a closing, with a day and without; a day without losses is kept

@@ -1,7 +1,7 @@
 -- Document 01, "From days to the contribution": from the days of a period to each member's charge; 001, 6.1.1(i) and (ii), 6.1.2. By
 -- document 02's Change 2 a period may have none: "A closing with no accepted day now gives M 0, D 0, raw 0 and funded 50,000,000 for every
 -- member." By its Change 3 the Max EUL that a day reports goes by the days up to it, and with it. By its Change 4 a day may be without losses.
--- By its Change 6 shares are finer, and with them a raw charge's divisor and the allowance.
+-- By its Change 6 shares are finer, and with them a raw charge's divisor and the allowance. By its Change 7 a member may be absent on a day.
 use Rattle.std.specs.Prelude.{Bool, cond, ℕ, ◌-◌, ◌*◌, max, ltb, eqb, length}
 use mathlib.Core.List.{List, [], ◌∷◌, flat_map}
 use Rattle.std.specs.List.{filter}
@@ -36,7 +36,8 @@ counts T = ltb 0 T
 unfoldable pub counted : Opening → List KeptDay → List KeptDay
 counted o days = filter (λ d. counts (total o d.accounts)) days
 
--- the "sum of the member's shares", over the days that count
+-- The "sum of the member's shares", over the days that count. A day on which the member is absent "counts as share 0 in the mean" (Change 7): it
+-- has no account then, so its loss and its share are 0, and D is the fund's.
 unfoldable pub sum_of_shares : Opening → List KeptDay → (m : ℕ) → ℕ
 sum_of_shares o days m = Σ (counted o days) (λ d. share (loss o.k d.accounts m) (total o d.accounts))
 

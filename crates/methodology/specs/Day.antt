@@ -60,7 +60,7 @@ unfoldable pub estimate : (e Max T : ℕ) → ℕ
 estimate e Max T = round_div (220 * e * Max) T
 
 -- A member's five daily numbers: "(e, share, value, reserve, estimate)". On a day without losses, where T is 0, "every member's e, share and
--- cents are 0" (Change 4).
+-- cents are 0" (Change 4). So are those of an absent member (Change 7), whose e is 0.
 unfoldable pub five : (e Max T : ℕ) → List ℕ
 five e Max T = cond (eqb T 0) (0 ∷ 0 ∷ 0 ∷ 0 ∷ 0 ∷ []) (e ∷ share e T ∷ value e Max T ∷ reserve e Max T ∷ estimate e Max T ∷ [])
 

@@ -27,7 +27,7 @@ is_client a = is_r a || is_aor_u a
 -- Below, `eul` gives an account's EUL, under a scenario or its own, and `accts` are one member's accounts. An EUL that is not positive
 -- counts 0 among positive ones.
 
--- "the house EUL with its sign"; row 5 leaves a member one house account
+-- "the house EUL with its sign"; row 5 leaves a member one house account on a day on which it is present, and none on another
 unfoldable pub house_eul : (eul : Account → ℤ) → List Account → ℤ
 house_eul eul accts = Σℤ (filter is_house accts) eul
 

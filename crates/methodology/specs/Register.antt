@@ -61,7 +61,7 @@ unfoldable pub step : Register → Call → Register
 step g c = if_accepted (refusal g c) (accept g c) g
 
 -- What a call answers: "acceptance, with the figures due if any, or one numbered refusal" (demand 1), "with its index in rows 5 and 6"
--- (demand 3).
+-- (demand 3), or "with the first such member's number" in row 10, in the index's place (document 02, Change 7).
 pub data Answer : Type 0 where
   accepted : (figures : List ℕ) → Answer
   refused : (number : ℕ) → Answer

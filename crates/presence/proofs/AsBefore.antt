@@ -33,6 +33,7 @@ use Rattle.validation.proofs.DayPasses.{sized}
 use Rattle.validation.proofs.OpeningPasses.{found_passes, opening_leaves}
 use Rattle.validation.proofs.Presence.{over_at, over_none, below_last, missing_is_after}
 use Rattle.presence.specs.Presence.{has_account}
+use Rattle.presence.proofs.Before.{without_days, call_before}
 use Rattle.presence.proofs.Before as before
 
 -- ---- the claim
@@ -50,16 +51,7 @@ BringsEverybody (Call.closing room) = Unit {0}
 abbrev pub AllBringEverybody : List Made → Type 0
 AllBringEverybody cs = AllByRecursion (λ c. BringsEverybody (call_of c.asked)) cs
 
--- the same call without first and last days
-abbrev pub without_days : Opening → Opening
-without_days o = record { n = o.n; k = o.k; groups = o.groups; firsts = []; lasts = [] }
-
-abbrev pub call_before : Call → Call
-call_before (Call.opening o) = Call.opening (without_days o)
-call_before (Call.day d room) = Call.day d room
-call_before (Call.closing room) = Call.closing room
-
--- the register that the same calls would have left
+-- the register that the same calls without first and last days would have left
 abbrev pub register_before : List Made → Register
 register_before cs = fold (λ g c. before.step g (call_before (call_of c.asked))) start cs
 

@@ -1,9 +1,9 @@
 -- The refusal table as it was before Change 7, when an opening brought no first and last days: rows 1 and 5 as document 01 has them, and no row
 -- 10; and the answers and buffers by it. It reads no first or last day. The figures of accepted calls are as they were. It is here for the
--- comparison in AsBefore.antt alone.
+-- comparison in AsBefore.antt alone. The worked calls of the time hold it.
 use mathlib.Core.Path.{◌≡◌, refl}
 use mathlib.Core.Bool.{Bool, not, ◌&&◌, ◌||◌, cond}
-use mathlib.Core.List.{List, [], ◌∷◌}
+use mathlib.Core.List.{List, [], ◌∷◌, map}
 use Prim.Native.Nat.{ℕ, suc, ◌+◌}
 use lib.Dec.{ltb, eqb}
 use lib.ListN.{length}
@@ -14,7 +14,18 @@ use Rattle.methodology.specs.declared.Refusal.TheVariants.{BadOpening, OutOfTurn
 use Rattle.methodology.specs.declared.Opening.{Opening}
 use Rattle.methodology.specs.Account.{DayInput, accounts, nobody}
 use Rattle.methodology.specs.Refusals.{Verdict, clear, row◌when◌else◌, is_open, n_outside, k_outside, group_outside, bad_day_number, bad_input, bad_output, member_outside, not_rising, number_above, kind_unknown, zero_and_house_apart, first_not_zero, bad_amount, closing_refusal}
-use Rattle.methodology.specs.Register.{Call, Register, last_number, accept, if_accepted, returned, written, Answer, answer_by}
+use Rattle.methodology.specs.Register.{Call, Register, start, last_number, accept, if_accepted, returned, written, Answer, answer_by}
+use Rattle.methodology.proofs.Samples.{computed, Exchange, lent}
+use Rattle.methodology.proofs.WorkedCalls.{everybody_lists}
+
+-- an opening, and a call, without first and last days
+abbrev pub without_days : Opening → Opening
+without_days o = record { n = o.n; k = o.k; groups = o.groups; firsts = []; lasts = [] }
+
+abbrev pub call_before : Call → Call
+call_before (Call.opening o) = Call.opening (without_days o)
+call_before (Call.day d room) = Call.day d room
+call_before (Call.closing room) = Call.closing room
 
 -- Row 1: "n, k or a group outside its limit, or group list not n long". "Opening 2, 1."
 abbrev pub bad_opening : Opening → Bool
@@ -75,3 +86,17 @@ answer g c = answer_by (refusal g c) (returned (step g c) c)
 
 unfoldable pub buffer : Register → Call → (before : List ℕ) → List ℕ
 buffer g c before = if_accepted (refusal g c) (written (step g c) c) before
+
+-- ---- the table
+
+-- the calls of a list, their openings without first and last days, answered by this table from register g on
+unfoldable pub played : Register → List Exchange → List Exchange
+played g [] = []
+played g (x ∷ xs) =
+    let call = call_before x.call in
+    record { call = x.call; due = answer g call; left = buffer g call (lent x.call) } ∷ played (step g call) xs
+
+-- what held of the worked calls before the change, every condition of the refusal table among them, holds of it
+pub before_the_change : map (played start) everybody_lists ≡ everybody_lists
+unfolding everybody_lists computed bad_heading first_bad_heading last_missing refusal step answer buffer played
+before_the_change = refl
