@@ -50,9 +50,9 @@ INSTEAD = {
     "suc": [""], "filter": ["(λ test l. l)"], "descending": ["(λ l. l)"],
     "index": ["(suc index)"], "None": ["(Some 0)"],
 }
-ROWS = "BadOpening OutOfTurn BadDayNumber BadLengths BadLine", "BadHeading BadAmount"
+ROWS = "BadOpening OutOfTurn BadDayNumber BadLengths BadLine", "BadHeading BadAmount BadPresence"
 SAME_TYPE = [names.split() for names in (
-    ".n .k", ".margins .extras", ".margin .extra", ".member .number .kind", "o .held",
+    ".n .k", ".groups .firsts .lasts", "first_day last_day", "first last group", "from to", ".margins .extras", ".margin .extra", ".member .number .kind", "o .held",
     "kind_h kind_r kind_a kind_u", "is_house is_r is_aor_u is_client", "prev h nobody", "e Max T", "M S D",
     "value reserve estimate share", "funded unfunded shortfall",
     "half_of_clients two_largest_of_r part_b part_c", "total own_max_eul", "eul_under own_eul",
@@ -71,11 +71,13 @@ FROM = {
     **dict.fromkeys((
         "leb", "ltb", "eqb", "min", "max", "suc", "Some", "◌+◌", "◌-◌", "◌*◌", "◌/◌", "◌%◌", "negsuc", "pos", "◌-ℤ◌", "◌+ℤ◌", "cond", "not",
         "◌||◌", "◌&&◌", "false", "true", "length", "take", "drop", "map", "◌++◌"), "Rattle.std.specs.Prelude"),
-    "range_with_len": "Rattle.std.specs.List", "position_or_len": "Rattle.std.specs.List", "get_or": "Rattle.std.specs.Prelude",
+    "range_with_len": "Rattle.std.specs.List", "position_or_len": "Rattle.std.specs.List", "filter": "Rattle.std.specs.List",
+    "list_any": "Rattle.std.specs.List", "get_or": "Rattle.std.specs.Prelude",
     "Σℤ": "Rattle.numbers.specs.Sums", "Σ": "Rattle.numbers.specs.Sums",
     "greatest": "Rattle.numbers.specs.Sums", "◌⁺": "Rattle.numbers.specs.Signed", "◌⁻": "Rattle.numbers.specs.Signed",
     "round_div": "Rattle.numbers.specs.Rounding", "ceil_div": "Rattle.numbers.specs.Rounding",
-    "with_groups": "Rattle.methodology.specs.Account", "dailies": "Rattle.methodology.specs.Day", "total": "Rattle.methodology.specs.Day",
+    "first_day": "Rattle.methodology.specs.Account", "last_day": "Rattle.methodology.specs.Account",
+    "present": "Rattle.methodology.specs.Account", "dailies": "Rattle.methodology.specs.Day", "total": "Rattle.methodology.specs.Day",
     "own_max_eul": "Rattle.methodology.specs.Day", "reported_max_eul": "Rattle.methodology.specs.Contribution",
     "counted": "Rattle.methodology.specs.Contribution", "is_open": "Rattle.methodology.specs.Refusals",
     **dict.fromkeys(" ".join(ROWS).split(), "Rattle.methodology.specs.declared.Refusal.TheVariants"),
@@ -163,11 +165,51 @@ Member.half_of_clients | ceil_div (Σ (filter is_client accts) (λ a. eul a ⁺)
 Member.two_largest_of_r | take 2 (descending | drop 0 (descending
 Member.part_c | (λ a. eul a ⁺) | (λ a. eul a ⁻)
 Member.loss | member_own k accts m ⁺ | greatest (range_with_len 1 k) (λ j. member_under accts m j ⁺)
-Refusals.member_skipped | ltb (prev.member + 1) h.member | ltb 0 prev.member && ltb (prev.member + 1) h.member
-Refusals.first_bad_heading | suc (first_bad_heading n h hs) | suc (first_bad_heading n prev hs)
+Refusals.member_skipped | passed_over o number prev.member h.member | ltb 0 prev.member && passed_over o number prev.member h.member
+Refusals.first_bad_heading | suc (first_bad_heading o number h hs) | suc (first_bad_heading o number prev hs)
 Refusals.bad_amount | list_any npv_outside a.npvs | list_any npv_outside (drop 1 a.npvs)
 Refusals.bad_amount | list_any npv_outside a.npvs | list_any npv_outside (take 2 a.npvs)
-Refusals.opening_refusal | row OutOfTurn when is_open s else row BadOpening when bad_opening o | row BadOpening when bad_opening o else row OutOfTurn when is_open s
+Refusals.opening_refusal | row OutOfTurn when is_open s else opening_rows o | cond (bad_opening o) (opening_rows o) (row OutOfTurn when is_open s else opening_rows o)
+Refusals.opening_refusal | row OutOfTurn when is_open s else opening_rows o | cond (bad_opening o) (row OutOfTurn when is_open s else opening_rows o) (row (BadPresence 1) when is_open s && bad_presence (first_day o 1) (last_day o 1) else row OutOfTurn when is_open s else opening_rows o)
+Refusals.opening_rows | row BadOpening when bad_opening o else⏎row (BadPresence (bad10 + 1)) when ltb bad10 o.n else | row (BadPresence (bad10 + 1)) when ltb bad10 o.n else⏎row BadOpening when bad_opening o else
+Refusals.opening_rows | (BadPresence (bad10 + 1)) | (BadPresence (greatest (filter (λ m. bad_presence (first_day o m) (last_day o m)) (members o.n)) (λ m. m)))
+Refusals.opening_rows | (λ m. bad_presence (first_day o m) (last_day o m)) | (λ m. bad_presence (first_day o m) (last_day o m) && not (bad_presence (first_day o (m + 1)) (last_day o (m + 1))))
+Refusals.opening_rows | (λ m. bad_presence (first_day o m) (last_day o m)) | (λ m. bad_presence (first_day o m % 4294967296) (last_day o m % 4294967296))
+Refusals.bad_presence | ltb last first || outside 1 31 first || outside 1 31 last | ltb last first || outside 1 31 first
+Refusals.bad_presence | ltb last first || outside 1 31 first || outside 1 31 last | outside 1 31 first || outside 1 31 last
+Refusals.bad_opening | not (eqb (length o.firsts) o.n) | ltb (length o.firsts) o.n
+Refusals.bad_opening | not (eqb (length o.firsts) o.n) | ltb o.n (length o.firsts)
+Refusals.bad_opening | not (eqb (length o.lasts) o.n) | ltb (length o.lasts) o.n
+Refusals.bad_opening | not (eqb (length o.lasts) o.n) | ltb o.n (length o.lasts)
+Refusals.bad_opening | not (eqb (length o.firsts) o.n)⏎|| not (eqb (length o.lasts) o.n) | not (eqb (length o.firsts + length o.lasts) (o.n + o.n))
+Refusals.member_absent | not (present o number h.member) | false
+Refusals.member_absent | not (present o number h.member) | ltb number (first_day o h.member)
+Refusals.member_absent | not (present o number h.member) | ltb (last_day o h.member) number
+Refusals.passed_over | ltb m to && present o number m | ltb m to
+Refusals.passed_over | ltb from m && ltb m to | eqb m (from + 1) && ltb m to
+Refusals.passed_over | ltb from m && ltb m to | ltb from m && eqb to (m + 1)
+Refusals.passed_over | ltb from m && ltb m to && present o number m | ltb from m && ltb m to && leb (first_day o m) number
+Refusals.passed_over | ltb from m && ltb m to && present o number m | ltb from m && ltb m to && leb number (last_day o m)
+Refusals.last_missing | present o number m && not | not
+Refusals.last_missing | present o number m && | leb (first_day o m) number &&
+Refusals.last_missing | present o number m && | leb number (last_day o m) &&
+Refusals.last_missing | (members o.n) | (drop (o.n - 1) (members o.n))
+Refusals.last_missing | present o number m && | not (list_any (present o number) (drop m (members o.n))) && present o number m &&
+Account.present | leb (first_day o m) number && leb number (last_day o m) | leb (first_day o m) number
+Account.present | leb (first_day o m) number && leb number (last_day o m) | leb number (last_day o m)
+Account.present | leb (first_day o m) number && leb number (last_day o m) | cond (eqb (first_day o m) (last_day o m)) (leb (first_day o m) number) (leb (first_day o m) number && leb number (last_day o m))
+Account.first_day | get_or o.firsts (m - 1) 0 | get_or o.firsts (o.n - m) 0
+Account.last_day | get_or o.lasts (m - 1) 0 | get_or o.lasts (o.n - m) 0
+Account.first_day | get_or o.firsts (m - 1) 0 | get_or o.firsts 0 0
+Account.last_day | get_or o.lasts (m - 1) 0 | get_or o.lasts 0 0
+Text.read_member | (get_or ns 2 0) (get_or ns 3 0) | (get_or ns 3 0) (get_or ns 2 0)
+Text.read_member | (get_or ns 2 0) (get_or ns 3 0) | (get_or ns 2 0 % 4294967296) (get_or ns 3 0)
+Text.read_member | (get_or ns 2 0) (get_or ns 3 0) | (get_or ns 2 0) (get_or ns 3 0 % 4294967296)
+Text.opened | (opening_line_named (row_index row)) | 1
+Register.accept | held = o; | held = record { n = o.n; k = o.k; groups = o.groups; firsts = g.held.firsts; lasts = g.held.lasts };
+Contribution.raw | (length (counted o days)) | (length (filter (λ d. present o d.number m) (counted o days)))
+Contribution.contributions | (members o.n) | (filter (λ m. list_any (λ d. present o d.number m) days) (members o.n))
+RowNumbers.row_index | (BadPresence member) = Some member | (BadPresence member) = None
 RowNumbers.row_index | (BadHeading index) = Some index | (BadHeading index) = None
 RowNumbers.row_index | (BadAmount index) = Some index | (BadAmount index) = None
 Register.step | if_accepted (refusal g c) (accept g c) g | accept g c
@@ -186,12 +228,12 @@ Refusals.bad_input | (count * (o.k + 1)))⏎|| not (eqb (length d.margins) count
 Refusals.bad_amount | list_any npv_outside a.npvs | list_any npv_outside (take 3 a.npvs)
 Refusals.bad_amount | list_any npv_outside a.npvs | list_any npv_outside (take 16 a.npvs)
 Refusals.first_not_zero | not (eqb prev.member h.member) && | ltb 0 prev.member && not (eqb prev.member h.member) &&
-Refusals.member_skipped | ltb (prev.member + 1) h.member | eqb (prev.member + 2) h.member
+Refusals.member_skipped | passed_over o number prev.member h.member | eqb (prev.member + 2) h.member && passed_over o number prev.member h.member
 Refusals.day_rows | row BadDayNumber when bad_day_number last d.terms.number else⏎account_rows o d | row BadDayNumber when outside 1 31 d.terms.number else⏎elim (account_rows o d) [ Err r ↦ Err r⏎|⏎Ok _ ↦ row BadDayNumber when leb d.terms.number last else clear ]
 Refusals.day_refusal | row BadLengths when bad_output o room else⏎day_rows o last d | elim (day_rows o last d) [ Err r ↦ Err r⏎|⏎Ok _ ↦ row BadLengths when bad_output o room else clear ]
 Refusals.day_rows | row BadDayNumber when bad_day_number last d.terms.number else⏎account_rows o d | elim (account_rows o d) [ Err r ↦ Err r⏎|⏎Ok _ ↦ row BadDayNumber when bad_day_number last d.terms.number else clear ]
 Register.accept | status = Open; held = o; days = [] | status = Open; held = o; days = cond (eqb o.n g.held.n) g.days []
-Register.accept | held = o; days = [] | held = with_groups o (cond (eqb o.n g.held.n) g.held.groups o.groups); days = []
+Register.accept | held = o; days = [] | held = record { n = o.n; k = o.k; groups = cond (eqb o.n g.held.n) g.held.groups o.groups; firsts = o.firsts; lasts = o.lasts }; days = []
 Register.step | if_accepted (refusal g c) (accept g c) g | if_accepted (refusal g c) (accept g c) (record { status = g.status; held = g.held; days = take 1 g.days })
 Rounding.round_div | (2 * p + q) / (2 * q) | cond (eqb ((2 * p + q) % (2 * q)) 0) ((2 * p + q) / (2 * q) / 2 * 2) ((2 * p + q) / (2 * q))
 Rounding.round_div | (2 * p + q) / (2 * q) | (2 * p + (q - 1)) / (2 * q)

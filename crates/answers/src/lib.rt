@@ -22,11 +22,11 @@ pub fn print_refused_opening(printer: &mut Printer, refusal: Refusal)
     requires { opening_line_named (row_index refusal) < 2 ^ 64 }
     ensures { Prints printer.old (refused_line refusal (opening_line_named (row_index refusal))) printer.new }
 {
-    let named = match refusal.index() {
+    let line = match refusal.index() {
         None => 1,
         Some(member) => 1 + member,
     };
-    printer.refusal(refusal, named);
+    printer.refusal(refusal, line);
 }
 
 // The lines of an accepted day, of its number, what it returned, and the figures that it wrote for n members: "After a day's daily lines the

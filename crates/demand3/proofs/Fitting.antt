@@ -1,7 +1,7 @@
 -- Every number that a contract names fits 64 bits, on any period: a row's number and index, a day's figures by the bound of T and the
 -- range of an open period, a closing's by that range.
 use mathlib.Core.Path.{◌≡◌, refl, sym, ap, subst, ◌∙◌}
-use mathlib.Core.Bool.{true, false}
+use mathlib.Core.Bool.{true}
 use mathlib.Core.List.{List, [], ◌∷◌, map, flat_map}
 use Prim.Native.Nat.{ℕ, ◌+◌, ◌*◌, ◌≤◌, ◌<◌}
 use native.Mathlib.Omega.{arith}
@@ -26,7 +26,6 @@ use Rattle.methodology.specs.Register.{Answer, refused_with, answer_by}
 use Rattle.methodology.proofs.Passed.{passed, either, by_test}
 use Rattle.methodology.proofs.RowLimits.{at_most_10, row_occurs, Few as IndexFew, RowFew, opening_few, day_few, closing_few}
 use Rattle.quotient.specs.Ranges.{greatest_total, Charge}
-use Rattle.validation.specs.Slices.{in_places}
 use Rattle.validation.proofs.OpeningPasses.{opening_leaves}
 use Rattle.period.specs.declared.Period.{Period}
 use Rattle.period.specs.declared.DayReturns.{DayReturns}

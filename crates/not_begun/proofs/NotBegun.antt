@@ -2,7 +2,6 @@
 -- of calls, by demand 3, and every text of period, members and end; and that D counts the days answered as accepted, as the register does.
 -- With it the claim is whole: `not_begun`.
 use mathlib.Core.Path.{◌≡◌, refl, sym, ap, subst, ◌∙◌}
-use mathlib.Core.Bool.{false}
 use mathlib.Core.List.{List, [], ◌∷◌, ◌++◌, map, flat_map, append_assoc, append-nil}
 use Prim.Native.Nat.{ℕ, ◌+◌, ◌*◌, ◌<◌}
 use native.Mathlib.Omega.{arith}

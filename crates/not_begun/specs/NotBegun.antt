@@ -1,6 +1,6 @@
 -- Document 02, Change 2: "A closing with no accepted day now gives M 0, D 0, raw 0 and funded 50,000,000 for every member." `NotBegun` is the
 -- claim. That "the bound on the fund keeps its form" demand 3 says: `Covers` holds at every accepted closing, with days or without.
-use Rattle.std.specs.Prelude.{◌≡◌, false, cond, ℕ, ◌+◌, ◌*◌, ◌<◌, length, get_or, take}
+use Rattle.std.specs.Prelude.{◌≡◌, cond, ℕ, ◌+◌, ◌*◌, ◌<◌, length, get_or, take}
 use mathlib.Core.List.{List, [], ◌∷◌, ◌++◌, map, flat_map}
 use seplogic.Ra.Ura.{Ura}
 use base.Logic.{SProp}

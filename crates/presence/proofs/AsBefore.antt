@@ -2,15 +2,15 @@
 -- its buffer, what it did when openings brought no first and last days. `as_before` proves it: the two tables agree row by row on what
 -- everybody's presence leaves, so both registers hold the same but for the days that one of them holds.
 use mathlib.Core.Path.{◌≡◌, refl, sym, ap, ap₂, ◌∙◌}
-use mathlib.Core.Bool.{Bool, true, false, not, ◌&&◌, ◌||◌, cond, true≢false}
+use mathlib.Core.Bool.{Bool, true, false, not, ◌||◌, true≢false}
 use mathlib.Core.List.{List, [], ◌∷◌, ◌++◌}
-use Prim.Native.Nat.{ℕ, suc, ◌+◌, ◌-◌, ◌*◌, ◌≤◌, ◌<◌}
+use Prim.Native.Nat.{ℕ, ◌+◌, ◌-◌, ◌≤◌, ◌<◌}
 use native.Mathlib.Omega.{arith}
-use lib.Dec.{ltb, leb, eqb}
+use lib.Dec.{ltb}
 use lib.ListN.{length, get_or, replicate}
-use borrow.Author.Tests.{eq-eqb, ltb-true, ltb-false, lt-ltb, le-ltb, le-leb, eqb-true, eqb-false}
+use borrow.Author.Tests.{eq-eqb, ltb-true, ltb-false, lt-ltb, le-leb}
 use Rattle.std.specs.Prelude.{Ok, Err}
-use Rattle.std.specs.List.{AllByRecursion, list_any, fold, position_or_len}
+use Rattle.std.specs.List.{AllByRecursion, fold, position_or_len}
 use Rattle.std.proofs.Math.Bool.{or-false}
 use Rattle.numbers.proofs.Lists.{range_mem, some_any}
 use Rattle.std.proofs.lemmas.List.{get_or-replicate, length-replicate}
@@ -26,7 +26,7 @@ use Rattle.methodology.specs.Contribution.{reported_max_eul, highest, counted, s
 use Rattle.methodology.specs.Register.{Call, Register, start, last_number, refusal, accept, if_accepted, step, returned, written, answer_by, answer, buffer}
 use Rattle.methodology.proofs.Passed.{passed, either, inside, number_rises}
 use Rattle.methodology.proofs.RowLimits.{bad_heading_le}
-use Rattle.demand3.specs.Made.{Asked, Made, lent, call_of}
+use Rattle.demand3.specs.Made.{Made, lent, call_of}
 use Rattle.demand3.specs.Demand3.{Holds, register_after}
 use Rattle.demand3.proofs.EveryList.{last_agrees}
 use Rattle.validation.proofs.DayPasses.{sized}

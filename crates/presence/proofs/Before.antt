@@ -2,7 +2,7 @@
 -- 10; and the answers and buffers by it. It reads no first or last day. The figures of accepted calls are as they were. It is here for the
 -- comparison in AsBefore.antt alone. The worked calls of the time hold it.
 use mathlib.Core.Path.{◌≡◌, refl}
-use mathlib.Core.Bool.{Bool, not, ◌&&◌, ◌||◌, cond}
+use mathlib.Core.Bool.{Bool, not, ◌||◌, cond}
 use mathlib.Core.List.{List, [], ◌∷◌, map}
 use Prim.Native.Nat.{ℕ, suc, ◌+◌}
 use lib.Dec.{ltb, eqb}

@@ -6,11 +6,11 @@ use mathlib.Core.List.{List, [], ◌∷◌, ◌++◌}
 use Prim.Native.Nat.{ℕ, ◌+◌, ◌-◌, ◌*◌, ◌≤◌, ◌<◌}
 use native.Mathlib.Omega.{arith}
 use lib.Dec.{ltb, eqb}
-use lib.ListN.{length, get_or, replicate}
+use lib.ListN.{length, replicate}
 use borrow.Author.Tests.{ltb-true, eqb-false}
 use Rattle.std.specs.Prelude.{Option, Some, None, Ok, Err}
 use Rattle.std.proofs.lemmas.Bool.Decides.{nat_tests}
-use Rattle.std.specs.List.{AllByRecursion, filter, position_or_len}
+use Rattle.std.specs.List.{AllByRecursion, position_or_len}
 use Rattle.numbers.specs.Sums.{Σ}
 use Rattle.numbers.specs.Rounding.{ceil_div}
 use Rattle.numbers.proofs.Lists.{◌∈◌, mem_keep, every_mem}
@@ -43,7 +43,7 @@ use Rattle.demand3.proofs.EveryList.{last_agrees}
 use Rattle.fund.proofs.Dailies.{five_wide}
 use Rattle.answers.proofs.RefusalRows.{is_clear, is_told}
 use Rattle.as_printed.proofs.DaySums.{stretch_is}
-use Rattle.presence.specs.Presence.{days_present, charge_by_days_present, DayHas, FirstBad, Presence}
+use Rattle.presence.specs.Presence.{days_present, charge_by_days_present, FirstBad, Presence}
 use Rattle.presence.proofs.Present.{loss_none, share_none, five_of_none, day_has}
 
 -- ---- the days that a register keeps

@@ -1,28 +1,27 @@
 -- An accepted day, by the rows that let it pass: who is present has a house account, and who is absent no account. So an absent member's EULs
 -- are those of no account, 0 under every scenario and its own, and it is in no sum.
-use mathlib.Core.Path.{◌≡◌, refl, ap, ◌∙◌}
+use mathlib.Core.Path.{◌≡◌, refl, ◌∙◌}
 use mathlib.Core.Bool.{Bool, true, false, not}
-use mathlib.Core.List.{List, [], ◌∷◌}
-use Prim.Native.Nat.{ℕ, ◌+◌, ◌*◌, ◌≤◌, ◌<◌}
+use mathlib.Core.List.{List, []}
+use Prim.Native.Nat.{ℕ, ◌*◌, ◌≤◌, ◌<◌}
 use native.Mathlib.Omega.{arith}
 use lib.IntN.{ℤ, pos}
 use lib.Dec.{eqb}
-use lib.ListN.{length, get_or, replicate}
+use lib.ListN.{length, replicate}
 use borrow.Author.Tests.{eqb-true, eqb-false}
-use Rattle.std.specs.List.{filter, list_any}
-use Rattle.numbers.specs.Signed.{◌⁺}
+use Rattle.std.specs.List.{list_any}
 use Rattle.numbers.specs.Lists.{descending}
 use Rattle.numbers.specs.Sums.{Σ, Σℤ}
 use Rattle.numbers.specs.Rounding.{ceil_div, round_div}
-use Rattle.numbers.proofs.Lists.{◌∈◌, mem_at, by_index, any_false, some_any, range_mem, keep_none}
+use Rattle.numbers.proofs.Lists.{mem_at, by_index, any_false, some_any, range_mem, keep_none}
 use Rattle.numbers.proofs.Rounding.{ceil_le, round_le}
-use Rattle.numbers.proofs.Sums.{Σℤ-left_out}
+use Rattle.numbers.proofs.Sums.{Σ-left_out, Σℤ-left_out}
 use Rattle.methodology.specs.declared.Opening.{Opening}
 use Rattle.methodology.specs.declared.Heading.{Heading}
 use Rattle.methodology.specs.declared.Refusal.TheVariants.{OutOfTurn, BadLengths}
 use Rattle.methodology.specs.Account.{members, present, nobody, DayInput, Account, account_at, accounts}
 use Rattle.methodology.specs.Member.{accounts_of, house_eul, half_of_clients, two_largest_of_r, part_b, part_c, member_eul, member_under, member_own, loss}
-use Rattle.methodology.specs.Day.{group_of, group_sum, share, value, reserve, estimate, five}
+use Rattle.methodology.specs.Day.{total, group_of, group_sum, share, value, reserve, estimate, five}
 use Rattle.methodology.specs.Refusals.{clear, is_open, bad_output, day_refusal}
 use Rattle.methodology.specs.Register.{Call, Register, last_number, refusal}
 use Rattle.methodology.proofs.Passed.{passed}
@@ -34,7 +33,7 @@ use Rattle.validation.proofs.Amounts.{accounts_at}
 use Rattle.validation.proofs.DayPasses.{passes, sized}
 use Rattle.validation.proofs.Headings.{all_fine}
 use Rattle.validation.proofs.Presence.{no_account_if, account_where_present, house_where_present}
-use Rattle.presence.specs.Presence.{has_account, those_present, DayHas}
+use Rattle.presence.specs.Presence.{DayHas}
 
 -- ---- of no account
 
@@ -66,7 +65,7 @@ five_of_none Max T = by (eqb T 0) refl
     by true e = five_none 0 Max T (eqb-true T 0 e)
     by false e =
         let some : 0 < T = let other = eqb-false T 0 e in omega arith in
-        let cents : value 0 Max T ≡ 0 = cents_none Max T some in -- and so the other two
+        let cents : value 0 Max T ≡ 0 = cents_none Max T some in  -- and so the other two
         five_some 0 Max T (eqb-false T 0 e) ∙ rw (share_none T some, cents) refl
 
 -- ---- an accepted day
@@ -104,7 +103,7 @@ module _ (o : Opening) (last : ℕ) (d : DayInput) (p : Passes o last d) where
       some_any (present o number) (range_mem 1 o.n first.least (omega (arith, first.most))) first.there
 
   pub has : DayHas o number d.headings accts
-  unfolding group_sum
+  unfolding total group_sum
   has =
       record {
         account_where_present = account_where_present o number d.headings p.headings some p.complete;
@@ -112,6 +111,8 @@ module _ (o : Opening) (last : ℕ) (d : DayInput) (p : Passes o last d) where
         somebody = somebody;
         no_account = no_account_lem;
         no_loss = λ m absent. loss_none o.k accts m (no_account_lem m absent);
+        total_of_present =
+            Σ-left_out (present o number) (members o.n) (loss o.k accts) (λ m i absent. loss_none o.k accts m (no_account_lem m absent));
         group_of_present =
             λ m j. Σℤ-left_out (present o number) (group_of o m) (λ m'. member_under accts m' j) (λ m' i absent. under_none accts m' j (no_account_lem m' absent));
       }

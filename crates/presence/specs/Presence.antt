@@ -34,14 +34,15 @@ has_house hs m = list_any (λ h. eqb h.member m && eqb h.kind kind_h) hs
 abbrev pub those_present : Opening → (number : ℕ) → List ℕ → List ℕ
 those_present o number ms = filter (present o number) ms
 
--- Of a day of these accounts, under this number, that row 5 lets pass: "On other days it has no accounts", nor a loss; an absent Affiliate is
--- left out of its group's sum.
+-- Of a day of these accounts, under this number, that row 5 lets pass: "On other days it has no accounts", nor a loss; T is over those present,
+-- and so is a group's sum.
 pub record DayHas (o : Opening) (number : ℕ) (headings : List Heading) (accts : List Account) : Type 0 where
   pub account_where_present : (m : ℕ) → 1 ≤ m → m ≤ o.n → has_account headings m ≡ present o number m
   pub house_where_present : (m : ℕ) → 1 ≤ m → m ≤ o.n → has_house headings m ≡ present o number m
   pub somebody : list_any (present o number) (members o.n) ≡ true
   pub no_account : (m : ℕ) → present o number m ≡ false → accounts_of m accts ≡ []
   pub no_loss : (m : ℕ) → present o number m ≡ false → loss o.k accts m ≡ 0
+  pub total_of_present : total o accts ≡ Σ (those_present o number (members o.n)) (loss o.k accts)
   pub group_of_present : (m j : ℕ) → group_sum o accts m j ≡ Σℤ (those_present o number (group_of o m)) (λ m'. member_under accts m' j)
 
 -- ---- a closing

@@ -7,7 +7,7 @@ use Prim.Native.Nat.{ℕ, zero, suc, ◌+◌, ◌-◌, ◌≤◌, ◌<◌}
 use native.Mathlib.Omega.{arith}
 use lib.Dec.{ltb, eqb}
 use lib.ListN.{length, get_or}
-use borrow.Author.Tests.{ltb-false, lt-ltb, le-ltb, ltb-true, eqb-true, eqb-false, ne_eqb}
+use borrow.Author.Tests.{ltb-false, lt-ltb, ltb-true, eqb-true, eqb-false, ne_eqb}
 use Rattle.std.specs.List.{list_any}
 use Rattle.std.proofs.lemmas.Bool.Decides.{nat_tests}
 use Rattle.numbers.proofs.Lists.{◌∈◌, mem_at, any_false, by_index, by_steps, mem_range, range_mem, any_eq, some_any, none_any}
