@@ -1,13 +1,15 @@
 -- Calls worked by the register: document 01's printed month, with the shares of document 02's Change 6; M on each of three days; a
 -- month whose own Max EULs fall and rise; months that have not begun; months with days without losses, and of such days alone; shares of a few
--- parts; a period whose calls meet every condition of the refusal table from both sides, and every pair of its order of precedence; months in
--- which members join or leave. One table, one theorem: each answer, and each number left in a buffer, is the one due. By computation. The figures
--- were worked out from the documents by a recalculation of its own. The largest periods are in WorkedLimits.antt.
+-- parts; a period whose calls meet every condition of document 01's refusal table from both sides, and every pair of its order of precedence;
+-- months in which members join or leave, with row 10 and what is new in rows 1 and 5. One table, one theorem: each answer, and each number
+-- left in a buffer, is the one due. By computation. The figures were worked out from the documents by a recalculation of its own. The largest
+-- periods are in WorkedLimits.antt.
 use mathlib.Core.Path.{◌≡◌, refl}
 use mathlib.Core.List.{List, [], ◌∷◌, ◌++◌, map, flat_map}
 use Prim.Native.Nat.{ℕ, ◌+◌, ◌-◌, ◌*◌}
 use lib.IntN.{ℤ, pos}
 use lib.ListN.{length, drop, replicate}
+use Rattle.std.specs.List.{range_with_len}
 use Rattle.methodology.specs.declared.Status.TheVariants.{Fresh, Open, Closed}
 use Rattle.methodology.specs.declared.Opening.{Opening}
 use Rattle.methodology.specs.Register.{Call, opening, day, closing, Register, start, step, accepted, refused, refused_at}
@@ -859,15 +861,15 @@ last_of_four =
 abbrev dollar : (member number kind : ℕ) → Line
 dollar member number kind = losing member number kind (pos 1)
 
-abbrev own : (member : ℕ) → Line
-own member = dollar member 0 H
+abbrev dollar_of : (member : ℕ) → Line
+dollar_of member = dollar member 0 H
 
 -- a day of n members by its accounts; by the members that have one, which loses a dollar; and by what each of them loses
 abbrev with_lines : (n number : ℕ) → List Line → Call
 with_lines n number lines = day (day_of number lines) (5 * n)
 
 abbrev there : (n number : ℕ) → (those : List ℕ) → Call
-there n number those = with_lines n number (map own those)
+there n number those = with_lines n number (map dollar_of those)
 
 abbrev lost : (n number : ℕ) → (those : List (ℕ × ℕ)) → Call
 lost n number those = with_lines n number (map (λ l. losing l.0 0 H (pos l.1)) those)
@@ -927,7 +929,8 @@ abbrev but_for : (n m first last : ℕ) → Call
 but_for n m first last =
     brings_days n (replicate (m - 1) 5 ++ (first ∷ replicate (n - m) 5)) (replicate (m - 1) 9 ++ (last ∷ replicate (n - m) 9))
 
--- Bad days: a first above the last by one, and by more; either 0 or 32; both; and such as are good once 2^32 is taken away.
+-- Bad days: a first above the last by one, and by more; either 0 or 32; both; such as are good once 2^32 is taken away; and the greatest of 64
+-- bits.
 abbrev bad_days : List (ℕ × ℕ)
 bad_days =
     (10, 9)
@@ -947,6 +950,9 @@ bad_days =
     ∷ (4294967298, 4294967298)
     ∷ (4294967298, 31)
     ∷ (1, 4294967298)
+    ∷ (18446744073709551615, 18446744073709551615)
+    ∷ (18446744073709551615, 31)
+    ∷ (1, 18446744073709551615)
     ∷ []
 
 -- the last good ones, for each of three members; each is a period of its own
@@ -1010,31 +1016,31 @@ joins_open =
     ∷ there 3 9 (2 ∷ 3 ∷ []) gets refused_at 5 0
     ∷ there 3 9 (2 ∷ []) gets refused_at 5 0
     ∷ there 3 9 (1 ∷ 2 ∷ []) gets refused_at 5 1
-    ∷ with_lines 3 9 (own 1 ∷ dollar 1 1 R ∷ own 2 ∷ own 3 ∷ []) gets refused_at 5 2
-    ∷ with_lines 3 9 (own 1 ∷ dollar 2 1 R ∷ own 3 ∷ []) gets refused_at 5 1
-    ∷ with_lines 3 9 (own 1 ∷ own 2 ∷ dollar 2 1 R ∷ own 3 ∷ []) gets refused_at 5 1
-    ∷ with_lines 3 9 (own 1 ∷ dollar 1 1 R ∷ dollar 1 2 U ∷ dollar 2 1 A ∷ own 3 ∷ []) gets refused_at 5 3
+    ∷ with_lines 3 9 (dollar_of 1 ∷ dollar 1 1 R ∷ dollar_of 2 ∷ dollar_of 3 ∷ []) gets refused_at 5 2
+    ∷ with_lines 3 9 (dollar_of 1 ∷ dollar 2 1 R ∷ dollar_of 3 ∷ []) gets refused_at 5 1
+    ∷ with_lines 3 9 (dollar_of 1 ∷ dollar_of 2 ∷ dollar 2 1 R ∷ dollar_of 3 ∷ []) gets refused_at 5 1
+    ∷ with_lines 3 9 (dollar_of 1 ∷ dollar 1 1 R ∷ dollar 1 2 U ∷ dollar 2 1 A ∷ dollar_of 3 ∷ []) gets refused_at 5 3
     -- a present one is skipped before it, or missing behind it
     ∷ there 3 9 (3 ∷ []) gets refused_at 5 0
     ∷ there 3 9 (1 ∷ []) gets refused_at 5 1
-    ∷ with_lines 3 9 (own 1 ∷ dollar 1 1 R ∷ dollar 1 2 A ∷ []) gets refused_at 5 3
+    ∷ with_lines 3 9 (dollar_of 1 ∷ dollar 1 1 R ∷ dollar 1 2 A ∷ []) gets refused_at 5 3
     -- the smallest index wins: another fault before it and after it
-    ∷ with_lines 3 9 (own 1 ∷ dollar 1 1 4 ∷ own 2 ∷ own 3 ∷ []) gets refused_at 5 1
-    ∷ with_lines 3 9 (dollar 1 0 R ∷ own 2 ∷ own 3 ∷ []) gets refused_at 5 0
-    ∷ with_lines 3 9 (own 1 ∷ own 2 ∷ own 3 ∷ dollar 3 65536 R ∷ []) gets refused_at 5 1
+    ∷ with_lines 3 9 (dollar_of 1 ∷ dollar 1 1 4 ∷ dollar_of 2 ∷ dollar_of 3 ∷ []) gets refused_at 5 1
+    ∷ with_lines 3 9 (dollar 1 0 R ∷ dollar_of 2 ∷ dollar_of 3 ∷ []) gets refused_at 5 0
+    ∷ with_lines 3 9 (dollar_of 1 ∷ dollar_of 2 ∷ dollar_of 3 ∷ dollar 3 65536 R ∷ []) gets refused_at 5 1
     ∷ there 3 9 (1 ∷ 3 ∷ 2 ∷ []) gets refused_at 5 2
     ∷ there 3 9 (1 ∷ 2 ∷ 3 ∷ 4 ∷ []) gets refused_at 5 1
     ∷ there 3 9 (1 ∷ 3 ∷ 4 ∷ []) gets refused_at 5 2
     -- 4 before 5, and an output for three members; 3 before 5; 5 before 6
-    ∷ day (day_of 9 (map own (1 ∷ 3 ∷ []))) 10 gets refused 4
-    ∷ day (day_of 9 (map own (1 ∷ 2 ∷ 3 ∷ []))) 10 gets refused 4
-    ∷ day (day_of 9 (map own (1 ∷ 2 ∷ 3 ∷ []))) 14 gets refused 4
+    ∷ day (day_of 9 (map dollar_of (1 ∷ 3 ∷ []))) 10 gets refused 4
+    ∷ day (day_of 9 (map dollar_of (1 ∷ 2 ∷ 3 ∷ []))) 10 gets refused 4
+    ∷ day (day_of 9 (map dollar_of (1 ∷ 2 ∷ 3 ∷ []))) 14 gets refused 4
     ∷ there 3 9 [] gets refused 4
     ∷ there 3 0 (1 ∷ 2 ∷ 3 ∷ []) gets refused 3
     ∷ there 3 32 (1 ∷ 2 ∷ 3 ∷ []) gets refused 3
-    ∷ with_lines 3 9 (losing 1 0 H (pos 1000000000001) ∷ own 2 ∷ own 3 ∷ []) gets refused_at 5 1
+    ∷ with_lines 3 9 (losing 1 0 H (pos 1000000000001) ∷ dollar_of 2 ∷ dollar_of 3 ∷ []) gets refused_at 5 1
     ∷ with_lines 3 9 (losing 1 0 H (pos 1000000000001) ∷ []) gets refused_at 5 1
-    ∷ with_lines 3 9 (own 1 ∷ losing 3 0 H (pos 1000000000001) ∷ []) gets refused_at 6 1
+    ∷ with_lines 3 9 (dollar_of 1 ∷ losing 3 0 H (pos 1000000000001) ∷ []) gets refused_at 6 1
     ∷ lost 3 9 ((1, 40000000) ∷ (3, 60000000) ∷ [])
     gets accepted (100000000 ∷ 60000000 ∷ [])
     writing (40000000 ∷ 400000000000000 ∷ 2400000000 ∷ 2640000000 ∷ 5280000000
@@ -1056,11 +1062,11 @@ joins_open =
     ∷ [])
     -- the eleventh, without the third
     ∷ there 3 11 (1 ∷ 2 ∷ 3 ∷ []) gets refused_at 5 2
-    ∷ with_lines 3 11 (own 1 ∷ own 2 ∷ dollar 2 1 R ∷ own 3 ∷ []) gets refused_at 5 3
-    ∷ with_lines 3 11 (own 1 ∷ own 2 ∷ dollar 3 1 R ∷ []) gets refused_at 5 2
+    ∷ with_lines 3 11 (dollar_of 1 ∷ dollar_of 2 ∷ dollar 2 1 R ∷ dollar_of 3 ∷ []) gets refused_at 5 3
+    ∷ with_lines 3 11 (dollar_of 1 ∷ dollar_of 2 ∷ dollar 3 1 R ∷ []) gets refused_at 5 2
     ∷ there 3 11 (1 ∷ 3 ∷ []) gets refused_at 5 1
     ∷ there 3 11 (1 ∷ []) gets refused_at 5 1
-    ∷ with_lines 3 11 (own 1 ∷ dollar 1 1 R ∷ dollar 1 2 R ∷ []) gets refused_at 5 3
+    ∷ with_lines 3 11 (dollar_of 1 ∷ dollar 1 1 R ∷ dollar 1 2 R ∷ []) gets refused_at 5 3
     ∷ there 3 11 (2 ∷ []) gets refused_at 5 0
     ∷ there 3 11 (2 ∷ 3 ∷ []) gets refused_at 5 0
     ∷ there 3 11 (3 ∷ []) gets refused_at 5 0
@@ -1144,6 +1150,32 @@ last_day_alone =
     ∷ a_dollar_on 31
     ∷ []
 
+-- and on two days, the first of a month or the last
+abbrev first_days_alone : List Exchange
+first_days_alone =
+    brings_days 1 (1 ∷ []) (2 ∷ []) gets accepted []
+    ∷ a_dollar_on 1
+    ∷ a_dollar_on 2
+    ∷ there 1 3 (1 ∷ []) gets refused_at 5 0
+    ∷ []
+
+abbrev last_days_alone : List Exchange
+last_days_alone =
+    brings_days 1 (30 ∷ []) (31 ∷ []) gets accepted []
+    ∷ there 1 29 (1 ∷ []) gets refused_at 5 0
+    ∷ a_dollar_on 30
+    ∷ a_dollar_on 31
+    ∷ []
+
+-- on any day between them alone: neither on the day before nor on the one after
+abbrev one_day_alone : (number : ℕ) → List Exchange
+one_day_alone number =
+    brings_days 1 (number ∷ []) (number ∷ []) gets accepted []
+    ∷ there 1 (number - 1) (1 ∷ []) gets refused_at 5 0
+    ∷ there 1 (number + 1) (1 ∷ []) gets refused_at 5 0
+    ∷ a_dollar_on number
+    ∷ []
+
 -- Six members, of whom two in a row are absent on the seventh: between others, the first two, the last two. A present one is missing beside
 -- them, with an account of one of them and without.
 abbrev two_between : List Exchange
@@ -1183,7 +1215,7 @@ two_at_first =
     ∷ there 6 7 (1 ∷ 3 ∷ 4 ∷ 5 ∷ 6 ∷ []) gets refused_at 5 0
     ∷ there 6 7 (2 ∷ 3 ∷ 4 ∷ 5 ∷ 6 ∷ []) gets refused_at 5 0
     ∷ there 6 7 (2 ∷ 4 ∷ 5 ∷ 6 ∷ []) gets refused_at 5 0
-    ∷ with_lines 6 7 (dollar 1 1 R ∷ own 3 ∷ own 4 ∷ own 5 ∷ own 6 ∷ []) gets refused_at 5 0
+    ∷ with_lines 6 7 (dollar 1 1 R ∷ dollar_of 3 ∷ dollar_of 4 ∷ dollar_of 5 ∷ dollar_of 6 ∷ []) gets refused_at 5 0
     ∷ lost 6 7 ((3, 1) ∷ (4, 2) ∷ (5, 3) ∷ (6, 4) ∷ [])
     gets accepted (10 ∷ 4 ∷ [])
     writing (0 ∷ 0 ∷ 0 ∷ 0 ∷ 0
@@ -1201,7 +1233,7 @@ two_at_last =
     ∷ there 6 7 (1 ∷ 2 ∷ 3 ∷ []) gets refused_at 5 3
     ∷ there 6 7 (1 ∷ 2 ∷ []) gets refused_at 5 2
     ∷ there 6 7 (1 ∷ 2 ∷ 4 ∷ []) gets refused_at 5 2
-    ∷ with_lines 6 7 (own 1 ∷ dollar 1 1 R ∷ own 2 ∷ dollar 2 1 R ∷ own 3 ∷ []) gets refused_at 5 5
+    ∷ with_lines 6 7 (dollar_of 1 ∷ dollar 1 1 R ∷ dollar_of 2 ∷ dollar 2 1 R ∷ dollar_of 3 ∷ []) gets refused_at 5 5
     ∷ there 6 7 (1 ∷ 2 ∷ 3 ∷ 4 ∷ 5 ∷ []) gets refused_at 5 4
     ∷ there 6 7 (1 ∷ 2 ∷ 3 ∷ 4 ∷ 6 ∷ []) gets refused_at 5 4
     ∷ there 6 7 (1 ∷ 2 ∷ 3 ∷ 5 ∷ []) gets refused_at 5 3
@@ -1294,6 +1326,18 @@ last_of_32 =
     ∷ there 32 2 (32 ∷ []) gets refused_at 5 0
     ∷ []
 
+-- 32 members, of whom the last is present from the second to the thirtieth: on the first and the last day its account is bad, between them it is
+-- missing; so are the 31st and the seventh
+abbrev last_of_32_joins : List Exchange
+last_of_32_joins =
+    brings_days 32 (replicate 31 1 ++ (2 ∷ [])) (replicate 31 31 ++ (30 ∷ [])) gets accepted []
+    ∷ there 32 1 (range_with_len 1 32) gets refused_at 5 31
+    ∷ there 32 31 (range_with_len 1 32) gets refused_at 5 31
+    ∷ there 32 2 (range_with_len 1 31) gets refused_at 5 31
+    ∷ there 32 2 (range_with_len 1 30 ++ (32 ∷ [])) gets refused_at 5 30
+    ∷ there 32 2 (range_with_len 1 6 ++ range_with_len 8 25) gets refused_at 5 6
+    ∷ []
+
 -- The second is present on one of three days that count: the others count as share 0 in its mean. By the mean of its own day it would be charged
 -- more than the minimum. M is that of a day on which it is absent.
 abbrev on_one_day : List Exchange
@@ -1340,8 +1384,8 @@ two_of_three =
     writing (40000001 ∷ 50000000 ∷ 100000000 ∷ 70000001 ∷ 70000001 ∷ 140000002 ∷ [])
     ∷ []
 
--- Members absent on all days that count, one present on a day without losses, one on no day: raw 0, and funded the minimum. Then two of the
--- last days, in a month that has not begun.
+-- Members absent on all days that count, one present on a day without losses, one on no day: raw 0, and funded the minimum. Then, in a month
+-- that has not begun, two that are present on its last days alone.
 abbrev on_no_day : List Exchange
 on_no_day =
     brings_days 3 (1 ∷ 4 ∷ 20 ∷ []) (31 ∷ 5 ∷ 20 ∷ []) gets accepted []
@@ -1447,6 +1491,8 @@ presence_lists =
     ∷ alone 29 30
     ∷ first_day_alone
     ∷ last_day_alone
+    ∷ first_days_alone
+    ∷ last_days_alone
     ∷ two_between
     ∷ two_at_first
     ∷ two_at_last
@@ -1454,11 +1500,12 @@ presence_lists =
     ∷ every_other_from_1
     ∷ nobody_there
     ∷ last_of_32
+    ∷ last_of_32_joins
     ∷ on_one_day
     ∷ two_of_three
     ∷ on_no_day
     ∷ affiliates
-    ∷ opened_for_days
+    ∷ opened_for_days ++ map one_day_alone (range_with_len 2 29)
 
 abbrev lists : List (List Exchange)
 lists = everybody_lists ++ presence_lists

@@ -634,6 +634,22 @@ texts =
     ∷ ("period\t1\t1\nmember\t1\t0\t\t31\nend\n" gives "refused\t9\t2\n")
     -- 9 for a minus in a last day
     ∷ ("period\t1\t1\nmember\t1\t0\t1\t-1\nend\n" gives "refused\t9\t2\n")
+    -- 10 for a first day of 13 digits
+    ∷ ("period\t1\t1\nmember\t1\t0\t9999999999999\t31\nend\n" gives "refused\t10\t2\n")
+    -- 10 for a last day of 13 digits
+    ∷ ("period\t1\t1\nmember\t1\t0\t1\t9999999999999\nend\n" gives "refused\t10\t2\n")
+    -- 9 for a first day 01
+    ∷ ("period\t1\t1\nmember\t1\t0\t01\t31\nend\n" gives "refused\t9\t2\n")
+    -- 9 for a minus in a first day
+    ∷ ("period\t1\t1\nmember\t1\t0\t-1\t31\nend\n" gives "refused\t9\t2\n")
+    -- 9 for a first day of 14 digits
+    ∷ ("period\t1\t1\nmember\t1\t0\t10000000000000\t31\nend\n" gives "refused\t9\t2\n")
+    -- 9 for nothing for a last day
+    ∷ ("period\t1\t1\nmember\t1\t0\t1\t\nend\n" gives "refused\t9\t2\n")
+    -- 9 for a last day 031
+    ∷ ("period\t1\t1\nmember\t1\t0\t1\t031\nend\n" gives "refused\t9\t2\n")
+    -- 9 for a last day of 14 digits
+    ∷ ("period\t1\t1\nmember\t1\t0\t1\t10000000000000\nend\n" gives "refused\t9\t2\n")
     -- one member, who joins on day 31; 5 for its account on day 1
     ∷ ("period\t1\t1\nmember\t1\t0\t31\t31\nday\t1\t1\nacct\t1\t0\tH\t-463887590227\t0\t0\t-463887590228\nday\t9\t1\nacct\t1\t0\tH\t105387147301\t0\t0\t105387147259\nday\t14\t1\nacct\t1\t0\tH\t-714\t0\t0\t-722\nday\t18\t7\nacct\t1\t0\tH\t3\t0\t0\t-491751\nacct\t1\t8463\tR\t62339\t0\t0\t62420\nacct\t1\t20416\tR\t-1\t0\t0\t1\nacct\t1\t36875\tR\t0\t5\t0\t6\nacct\t1\t38773\tR\t-53965\t7457\t7457\t-61421\nacct\t1\t44439\tR\t-5\t0\t0\t-68150\nacct\t1\t58478\tA\t4300\t0\t0\t4336\nend\n" gives "refused\t5\t4\n")
     -- 10 at the last of four members, for a last day 0; the first one is absent

@@ -32,7 +32,7 @@ abbrev pub last_day : Opening → (m : ℕ) → ℕ
 last_day o m = get_or o.lasts (m - 1) 0
 
 -- Whether member m is present on the day with this number: from its first day to its last, both among them. "On other days it has no
--- accounts, losses or shares" (Change 7): row 5 of the refusal table leaves it no account, and from none come no loss and no share.
+-- accounts, losses or shares" (Change 7): row 5 of the refusal table leaves it no account, and without accounts its loss and its share are 0.
 unfoldable pub present : Opening → (number m : ℕ) → Bool
 present o number m = leb (first_day o m) number && leb number (last_day o m)
 

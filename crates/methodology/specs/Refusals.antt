@@ -62,8 +62,8 @@ bad_opening o =
 abbrev pub bad_presence : (first last : ℕ) → Bool
 bad_presence first last = ltb last first || outside 1 31 first || outside 1 31 last
 
--- The rows of what an opening brings: 1, 10. A first or last day is answered "by 10 with the first such member's number, after 1" (Change 7);
--- members are numbered from 1. Where none is bad, `bad10` is the number of members.
+-- The rows of what an opening brings: 1, 10. A bad first or last day is answered "by 10 with the first such member's number, after 1" (Change
+-- 7); members are numbered from 1. Where none is bad, `bad10` is the number of members.
 unfoldable pub opening_rows : Opening → Verdict
 opening_rows o =
     let bad10 = position_or_len (λ m. bad_presence (first_day o m) (last_day o m)) (members o.n) in
@@ -104,7 +104,7 @@ bad_output o room = not (eqb room (5 * o.n))
 abbrev pub member_outside : (n : ℕ) → (h : Heading) → Bool
 member_outside n h = outside 1 n h.member
 
--- the member is not there on the day: "an account for it is bad by row 5" (Change 7)
+-- the member is absent on the day: "an account for it is bad by row 5" (Change 7)
 abbrev pub member_absent : Opening → (number : ℕ) → (h : Heading) → Bool
 member_absent o number h = not (present o number h.member)
 
@@ -129,12 +129,12 @@ zero_and_house_apart h = eqb h.number 0 && not (eqb h.kind kind_h) || eqb h.kind
 abbrev pub first_not_zero : (prev h : Heading) → Bool
 first_not_zero prev h = not (eqb prev.member h.member) && not (eqb h.number 0)
 
--- whether a member that is present on the day stands between two others
+-- whether a member that is present on the day has a number between these two
 unfoldable pub passed_over : Opening → (number from to : ℕ) → Bool
 passed_over o number from to = list_any (λ m. ltb from m && ltb m to && present o number m) (members o.n)
 
--- "a member skipped": the account that jumps is bad. "A missing house account of a present member" is (Change 7), so an absent one may be
--- passed over.
+-- "a member skipped": the account that jumps is bad. By Change 7 "a missing house account of a present member" is bad, so an absent member may
+-- be passed over.
 abbrev pub member_skipped : Opening → (number : ℕ) → (prev h : Heading) → Bool
 member_skipped o number prev h = passed_over o number prev.member h.member
 

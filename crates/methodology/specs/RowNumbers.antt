@@ -5,7 +5,7 @@ use Rattle.methodology.specs.declared.Refusal.{Refusal}
 use Rattle.methodology.specs.declared.Refusal.TheVariants.{BadOpening, OutOfTurn, BadDayNumber, BadLengths, BadHeading, BadAmount, BadLine, BadPresence}
 
 abbrev pub row_number : Refusal → ℕ
--- "opening: n, k or a group outside its limit, or group list not n long"
+-- "opening: n, k or a group outside its limit, or group list not n long"; "A list of first or last days that is not n long" (Change 7)
 row_number BadOpening = 1
 -- "opening while open; day or closing while not open"
 row_number OutOfTurn = 2

@@ -182,7 +182,7 @@ fund_lines n answer out = printed (bytes "fund") answer ++ rows (bytes "contribu
 pub data Expected : Type 0 where
   -- the period line
   period : Expected
-  -- a member's line, after those whose numbers are held
+  -- a member's line, after those that o holds
   member : (o : Opening) → Expected
   -- a day line or the end line
   day : (g : Register) → Expected

@@ -6,8 +6,8 @@ ghost use Rattle.methodology.specs.RowNumbers.{row_number, row_index};
 
 // What an opening brings. "A period has n members, numbered 1 to n (1 to 32), and k stress scenarios (1 to 16). Each member has a group
 // number, 0 to 32", and "a first and a last day" (document 02, Change 7). In a call each of these is a list of any length; a period keeps it in
-// 32 places, with 0 past the last: no call can fail, so nothing takes memory. The limits are no part of the type, since the definitions share
-// it and take what rows 1 and 10 refuse: who needs one asks for it.
+// 32 places, with 0 past the last: a call may not fail for want of memory, so it asks for none. The limits are no part of the type, since the
+// definitions share it and take what rows 1 and 10 refuse: who needs one asks for it.
 #[derive(Clone, Copy, Debug, PartialEq, Eq)]
 pub struct Opening {
     pub n: u64,

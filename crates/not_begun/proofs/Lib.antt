@@ -1,3 +1,3 @@
 pub mod NeverOccurs
-mod MonthText
+pub mod MonthText
 pub mod NotBegun

@@ -1,5 +1,5 @@
--- The report of period, members, end and what may follow. Each line reads as the numbers that were printed, so the opening is the one that the
--- text was made of; the closing comes next, or 9.
+-- The report of period, members and what follows. Each line reads as the numbers that were printed, so the opening is the one that the text was
+-- made of: it is refused, or accepted, and after the end line the closing comes next, or 9.
 use mathlib.Core.Path.{◌≡◌, refl, sym, ap, ◌∙◌}
 use mathlib.Core.Bool.{true, false, cond}
 use mathlib.Core.List.{List, [], ◌∷◌, ◌++◌, map, flat_map, append_assoc, append-nil}
@@ -21,11 +21,10 @@ use Rattle.methodology.specs.Register.{Call, Register, start, refusal, step}
 use Rattle.methodology.specs.Text.{tab, LF, bytes, same, split, decimal, number_of, every_field, also, bad_bytes, numbers_after, printed, Expected, period, member, day, after_end, read_period, Read, goes_on, opened, with_member, read_member, read_line, followed_by, report_from, report_of}
 use Rattle.methodology.proofs.Splits.{split_first}
 use Rattle.methodology.proofs.Short.{printed_short}
-use Rattle.validation.specs.Passing.{Opened}
 use Rattle.validation.proofs.OpeningPasses.{opening_leaves}
 use Rattle.as_printed.proofs.ReadBack.{Digit, all_digits, reads_back_as_text}
 use Rattle.as_printed.proofs.PrintedLines.{Word, without, tabbed, line_with, line_fields_lem, line_ended}
-use Rattle.not_begun.specs.NotBegun.{text_of}
+use Rattle.not_begun.specs.NotBegun.{opening_lines, text_of}
 
 -- ---- a line: a word, and up to four numbers
 
@@ -78,10 +77,20 @@ begins_end = record { word = (refl, refl); short = omega arith; ascii = (refl, (
 
 -- ---- the text
 
-module _ (o : Opening) (good : opening_rows o ≡ clear) where
-  limits : Opened o
-  limits = opening_leaves o good
+-- an opening that a text can bring to its call: n and k within their limits, and no number of more than 13 digits
+pub record Written (o : Opening) : Type 0 where
+  pub members_some : 1 ≤ o.n
+  pub members_few : o.n ≤ 32
+  pub scenarios_some : 1 ≤ o.k
+  pub scenarios_few : o.k ≤ 16
+  pub groups_long : length o.groups ≡ o.n
+  pub firsts_long : length o.firsts ≡ o.n
+  pub lasts_long : length o.lasts ≡ o.n
+  pub group_short : (i : ℕ) → i < o.n → get_or o.groups i 0 < 10 ^ 13
+  pub first_short : (i : ℕ) → i < o.n → get_or o.firsts i 0 < 10 ^ 13
+  pub last_short : (i : ℕ) → i < o.n → get_or o.lasts i 0 < 10 ^ 13
 
+module _ (o : Opening) (l : Written o) where
   -- the register after the opening
   abbrev opened_by_lem : Register
   opened_by_lem = step start (Call.opening o)
@@ -91,10 +100,6 @@ module _ (o : Opening) (good : opening_rows o ≡ clear) where
 
   abbrev member_line : (m : ℕ) → List ℕ
   member_line m = printed (bytes "member") (m ∷ group_number o m ∷ first_day o m ∷ last_day o m ∷ [])
-
-  pub opening_clear : refusal start (Call.opening o) ≡ clear
-  unfolding refusal opening_refusal row◌when◌else◌
-  opening_clear = rw good
 
   -- the opening with what the first `count` members bring
   abbrev up_to : (count : ℕ) → Opening
@@ -108,14 +113,14 @@ module _ (o : Opening) (good : opening_rows o ≡ clear) where
   one_more list long count h = rw (number_is list count) (sym (take-suc list count 0 (omega (arith, h, long))))
 
   counted : (count : ℕ) → count ≤ o.n → length (take count o.groups) ≡ count
-  counted count h = length-take-le count o.groups (omega (arith, limits.groups_long))
+  counted count h = length-take-le count o.groups (omega (arith, l.groups_long))
 
   all_lists : (count : ℕ) → count ≡ o.n → up_to count ≡ o
   all_lists count h =
       rw (
-        take_all count o.groups (omega (arith, h, limits.groups_long)),
-        take_all count o.firsts (omega (arith, h, limits.firsts_long)),
-        take_all count o.lasts (omega (arith, h, limits.lasts_long)),
+        take_all count o.groups (omega (arith, h, l.groups_long)),
+        take_all count o.firsts (omega (arith, h, l.firsts_long)),
+        take_all count o.lasts (omega (arith, h, l.lasts_long)),
       ) refl
 
   -- the line of member `count` + 1: the opening call is made where it is the last
@@ -125,11 +130,10 @@ module _ (o : Opening) (good : opening_rows o ≡ clear) where
       followed_by (cond (eqb (suc count) o.n) (opened (refusal start (Call.opening o')) o') (goes_on [] (member o'))) (report_from (i + 1) (split LF rest)))
   unfolding read_line read_member with_member
   member_read count i rest h =
-      let l = limits in
       let m = suc count in
-      let group : group_number o m < 10 ^ 13 = omega (arith, number_is o.groups count, l.group_few count h) in
-      let last : last_day o m < 10 ^ 13 = omega (arith, number_is o.lasts count, l.last_few count h) in
-      let first : first_day o m < 10 ^ 13 = omega (arith, number_is o.firsts count, l.in_order count h, l.last_few count h) in
+      let group : group_number o m < 10 ^ 13 = omega (arith, number_is o.groups count, l.group_short count h) in
+      let first : first_day o m < 10 ^ 13 = omega (arith, number_is o.firsts count, l.first_short count h) in
+      let last : last_day o m < 10 ^ 13 = omega (arith, number_is o.lasts count, l.last_short count h) in
       let numbers = m ∷ group_number o m ∷ first_day o m ∷ last_day o m ∷ [] in
       let read = reads_back (bytes "member") numbers begins_member (omega (arith, h, l.members_few), (group, (first, (last, tt)))) in
       line_read_lem i (bytes "member") numbers rest (member (up_to count)) begins_member (omega arith)
@@ -142,47 +146,81 @@ module _ (o : Opening) (good : opening_rows o ≡ clear) where
         eq-eqb m m refl,
       )
 
+  -- the opening call, made after them, and what follows it
+  abbrev opening_call : (rest : Expected → List ℕ) → List ℕ
+  opening_call rest = followed_by (opened (refusal start (Call.opening o)) o) rest
+
   -- from there on, where `left` are due, to what follows them
   from_member : (left count i : ℕ) (end : List ℕ) → 1 ≤ left → count + left ≡ o.n
       → report_from i (split LF (flat_map member_line (range_with_len (suc count) left) ++ end)) (member (up_to count))
-      ≡ report_from (i + left) (split LF end) (day opened_by_lem)
-  unfolding flat_map followed_by opened
+      ≡ opening_call (report_from (i + left) (split LF end))
+  unfolding flat_map followed_by
   from_member zero count i end some h = absurd (omega arith)
   from_member (suc zero) count i end some h =
       rw (append-nil (member_line (suc count)))
-      (member_read count i end (omega arith) ∙ rw (eq-eqb (suc count) o.n (omega arith), all_lists (suc count) (omega arith), opening_clear))
+      (member_read count i end (omega arith) ∙ rw (eq-eqb (suc count) o.n (omega arith), all_lists (suc count) (omega arith)) refl)
   from_member (suc (suc left)) count i end some h =
       let more = flat_map member_line (range_with_len (suc (suc count)) (suc left)) in
       rw (add-one (suc count), append_assoc (member_line (suc count)) more end)
       (member_read count i (more ++ end) (omega arith)
       ∙ rw (ne_eqb (suc count) o.n (λ e. omega (arith, e)))
-      (from_member (suc left) (suc count) (i + 1) end (omega arith) (omega arith) ∙ ap (λ (j : ℕ). report_from j (split LF end) (day opened_by_lem)) (omega arith)))
+      (from_member (suc left) (suc count) (i + 1) end (omega arith) (omega arith) ∙ ap (λ (j : ℕ). opening_call (report_from j (split LF end))) (omega arith)))
 
   period_read : read_line period 1 (line_with (bytes "period") (o.n ∷ o.k ∷ [])) ≡ goes_on [] (member (up_to 0))
   unfolding read_line read_period
   period_read =
-      let l = limits in
       let read = reads_back (bytes "period") (o.n ∷ o.k ∷ []) begins_period (omega (arith, l.members_few), (omega (arith, l.scenarios_few), tt)) in
       rw (read, le-ltb o.n 1 l.members_some, le-ltb 32 o.n l.members_few, le-ltb o.k 1 l.scenarios_some, le-ltb 16 o.k l.scenarios_few)
 
-  abbrev end_line : List ℕ
-  end_line = printed (bytes "end") []
-
-  end_read : (i : ℕ) (g : Register) (rest : List ℕ) → report_from i (split LF (end_line ++ rest)) (day g) ≡ report_from (i + 1) (split LF rest) (after_end g i)
-  unfolding read_line followed_by flat_map bytes same
-  end_read i g rest = line_read_lem i (bytes "end") [] rest (day g) begins_end (omega arith)
-
-  -- up to the end line: what follows it decides
-  pub to_the_end : (rest : List ℕ) → report_of (text_of o ++ rest) ≡ report_from (o.n + 3) (split LF rest) (after_end (step start (Call.opening o)) (o.n + 2))
+  -- up to the opening call
+  pub to_the_opening : (rest : List ℕ) → report_of (opening_lines o ++ rest) ≡ opening_call (report_from (o.n + 2) (split LF rest))
   unfolding report_of followed_by
-  to_the_end rest =
+  to_the_opening rest =
       let lines = flat_map member_line (members o.n) in
-      let text : text_of o ++ rest ≡ period_line ++ (lines ++ (end_line ++ rest)) =
-      rw (append_assoc period_line (lines ++ end_line) rest, append_assoc lines end_line rest) in
-      ap report_of text
-      ∙ line_read_lem 1 (bytes "period") (o.n ∷ o.k ∷ []) (lines ++ (end_line ++ rest)) period begins_period (omega arith)
-      ∙ ap (λ (r : Read). followed_by r (report_from 2 (split LF (lines ++ (end_line ++ rest))))) period_read
-      ∙ from_member o.n 0 2 (end_line ++ rest) limits.members_some (omega arith)
-      ∙ end_read (2 + o.n) opened_by_lem rest
-      ∙ ap (λ (i : ℕ). report_from (i + 1) (split LF rest) (after_end opened_by_lem i)) (omega arith)
-      ∙ ap (λ (i : ℕ). report_from i (split LF rest) (after_end opened_by_lem (o.n + 2))) (omega arith)
+      ap report_of (append_assoc period_line lines rest)
+      ∙ line_read_lem 1 (bytes "period") (o.n ∷ o.k ∷ []) (lines ++ rest) period begins_period (omega arith)
+      ∙ ap (λ (r : Read). followed_by r (report_from 2 (split LF (lines ++ rest)))) period_read
+      ∙ from_member o.n 0 2 rest l.members_some (omega arith)
+      ∙ ap (λ (i : ℕ). opening_call (report_from i (split LF rest))) (omega arith)
+
+-- the end line
+abbrev end_line : List ℕ
+end_line = printed (bytes "end") []
+
+end_read : (i : ℕ) (g : Register) (rest : List ℕ) → report_from i (split LF (end_line ++ rest)) (day g) ≡ report_from (i + 1) (split LF rest) (after_end g i)
+unfolding read_line followed_by flat_map bytes same
+end_read i g rest = line_read_lem i (bytes "end") [] rest (day g) begins_end (omega arith)
+
+-- an opening that is accepted, and what follows the end line decides
+module _ (o : Opening) (good : opening_rows o ≡ clear) where
+  written_lem : Written o
+  written_lem =
+      let l = opening_leaves o good in
+      record {
+        members_some = l.members_some;
+        members_few = l.members_few;
+        scenarios_some = l.scenarios_some;
+        scenarios_few = l.scenarios_few;
+        groups_long = l.groups_long;
+        firsts_long = l.firsts_long;
+        lasts_long = l.lasts_long;
+        group_short = λ i h. omega (arith, l.group_few i h);
+        first_short = λ i h. omega (arith, l.in_order i h, l.last_few i h);
+        last_short = λ i h. omega (arith, l.last_few i h);
+      }
+
+  pub opening_clear : refusal start (Call.opening o) ≡ clear
+  unfolding refusal opening_refusal row◌when◌else◌
+  opening_clear = rw good
+
+  pub to_the_end : (rest : List ℕ) → report_of (text_of o ++ rest) ≡ report_from (o.n + 3) (split LF rest) (after_end (step start (Call.opening o)) (o.n + 2))
+  unfolding followed_by opened
+  to_the_end rest =
+      let g = step start (Call.opening o) in
+      let read : followed_by (opened (refusal start (Call.opening o)) o) (report_from (o.n + 2) (split LF (end_line ++ rest)))
+      ≡ report_from (o.n + 2 + 1) (split LF rest) (after_end g (o.n + 2)) =
+      rw opening_clear (end_read (o.n + 2) g rest) in
+      ap report_of (append_assoc (opening_lines o) end_line rest)
+      ∙ to_the_opening o written_lem (end_line ++ rest)
+      ∙ read
+      ∙ ap (λ (i : ℕ). report_from i (split LF rest) (after_end g (o.n + 2))) (omega arith)

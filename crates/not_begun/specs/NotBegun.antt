@@ -59,12 +59,14 @@ days_answered cs = from_answers after_accepted 0 cs
 
 -- ---- a text
 
--- period, members and end
-abbrev pub text_of : Opening → List ℕ
-text_of o =
+-- period and members, and then end
+abbrev pub opening_lines : Opening → List ℕ
+opening_lines o =
     printed (bytes "period") (o.n ∷ o.k ∷ [])
-    ++ (flat_map (λ m. printed (bytes "member") (m ∷ group_number o m ∷ first_day o m ∷ last_day o m ∷ [])) (members o.n)
-    ++ printed (bytes "end") [])
+    ++ flat_map (λ m. printed (bytes "member") (m ∷ group_number o m ∷ first_day o m ∷ last_day o m ∷ [])) (members o.n)
+
+abbrev pub text_of : Opening → List ℕ
+text_of o = opening_lines o ++ printed (bytes "end") []
 
 -- `fund 0 0 ..` and the contributions
 abbrev pub fund_of : (n : ℕ) → List ℕ

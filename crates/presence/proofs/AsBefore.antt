@@ -1,6 +1,6 @@
--- "With everybody present from 1 to 31", all is as it was before the change. The record `AsBefore` is the claim: every call answers, and leaves in
+-- With everybody present from 1 to 31 all is as it was before the change. The record `AsBefore` is the claim: every call answers, and leaves in
 -- its buffer, what it did when openings brought no first and last days. `as_before` proves it: the two tables agree row by row on what
--- everybody's presence leaves, so both registers hold the same but for the days that one of them holds.
+-- everybody's presence leaves, so both registers hold the same but for the first and last days.
 use mathlib.Core.Path.{◌≡◌, refl, sym, ap, ap₂, ◌∙◌}
 use mathlib.Core.Bool.{Bool, true, false, not, ◌||◌, true≢false}
 use mathlib.Core.List.{List, [], ◌∷◌, ◌++◌}
@@ -27,21 +27,21 @@ use Rattle.methodology.specs.Register.{Call, Register, start, last_number, refus
 use Rattle.methodology.proofs.Passed.{passed, either, inside, number_rises}
 use Rattle.methodology.proofs.RowLimits.{bad_heading_le}
 use Rattle.demand3.specs.Made.{Made, lent, call_of}
-use Rattle.demand3.specs.Demand3.{Holds, register_after}
-use Rattle.demand3.proofs.EveryList.{last_agrees}
+use Rattle.demand3.specs.Demand3.{Agrees, Holds, register_after}
+use Rattle.demand3.proofs.EveryList.{holds_from, last_agrees}
 use Rattle.validation.proofs.DayPasses.{sized}
 use Rattle.validation.proofs.OpeningPasses.{found_passes, opening_leaves}
 use Rattle.validation.proofs.Presence.{over_at, over_none, below_last, missing_is_after}
 use Rattle.presence.specs.Presence.{has_account}
-use Rattle.presence.proofs.Before.{without_days, call_before}
+use Rattle.presence.proofs.Before.{without_presence, call_before, register_without}
 use Rattle.presence.proofs.Before as before
 
 -- ---- the claim
 
--- "everybody present from 1 to 31"
+-- everybody is present from 1 to 31
 pub record Everybody (o : Opening) : Type 0 where
-  pub first : o.firsts ≡ replicate o.n 1
-  pub last : o.lasts ≡ replicate o.n 31
+  pub firsts : o.firsts ≡ replicate o.n 1
+  pub lasts : o.lasts ≡ replicate o.n 31
 
 abbrev pub BringsEverybody : Call → Type 0
 BringsEverybody (Call.opening o) = Everybody o
@@ -51,16 +51,21 @@ BringsEverybody (Call.closing room) = Unit {0}
 abbrev pub AllBringEverybody : List Made → Type 0
 AllBringEverybody cs = AllByRecursion (λ c. BringsEverybody (call_of c.asked)) cs
 
--- the register that the same calls without first and last days would have left
-abbrev pub register_before : List Made → Register
-register_before cs = fold (λ g c. before.step g (call_before (call_of c.asked))) start cs
+-- the register that the same calls without first and last days would have led to, from that of g without its own
+abbrev pub register_before : Register → List Made → Register
+register_before g cs = fold (λ g c. before.step g (call_before (call_of c.asked))) (register_without g) cs
 
--- of every list in which demand 3 holds, so of compiled calls too (`every_list`, `compiled_lists` in demand3/proofs/Demand3.antt)
+-- Of every list in which demand 3 holds, so of compiled calls too (`every_list`, `compiled_lists` in demand3/proofs/Demand3.antt): of all its
+-- calls, or of those that come later, whatever was called before them, from where no period is open.
 pub record AsBefore : Type 0 where
-  pub answer_is : (cs : List Made) (c : Made) → Holds start (cs ++ (c ∷ [])) → AllBringEverybody (cs ++ (c ∷ []))
-      → c.answer ≡ before.answer (register_before cs) (call_before (call_of c.asked))
-  pub buffer_is : (cs : List Made) (c : Made) → Holds start (cs ++ (c ∷ [])) → AllBringEverybody (cs ++ (c ∷ []))
-      → c.after ≡ before.buffer (register_before cs) (call_before (call_of c.asked)) (lent c.asked)
+  pub answer_is : (earlier later : List Made) (c : Made) → Holds start (earlier ++ (later ++ (c ∷ [])))
+      → let g = register_after start earlier in
+      is_open g.status ≡ false → AllBringEverybody (later ++ (c ∷ []))
+      → c.answer ≡ before.answer (register_before g later) (call_before (call_of c.asked))
+  pub buffer_is : (earlier later : List Made) (c : Made) → Holds start (earlier ++ (later ++ (c ∷ [])))
+      → let g = register_after start earlier in
+      is_open g.status ≡ false → AllBringEverybody (later ++ (c ∷ []))
+      → c.after ≡ before.buffer (register_before g later) (call_before (call_of c.asked)) (lent c.asked)
 
 -- a row, where what follows it is the same
 row_alike : (met : Refusal) (t : Bool) {x y : Verdict} → (t ≡ false → x ≡ y) → row met when t else x ≡ row met when t else y
@@ -72,10 +77,10 @@ row_alike met false h = h refl
 
 module _ (o : Opening) (all : Everybody o) where
   first_is : (m : ℕ) → 1 ≤ m → m ≤ o.n → first_day o m ≡ 1
-  first_is m low high = rw all.first (get_or-replicate o.n (m - 1) 1 0 (omega (arith, low, high)))
+  first_is m low high = rw all.firsts (get_or-replicate o.n (m - 1) 1 0 (omega (arith, low, high)))
 
   last_is : (m : ℕ) → 1 ≤ m → m ≤ o.n → last_day o m ≡ 31
-  last_is m low high = rw all.last (get_or-replicate o.n (m - 1) 31 0 (omega (arith, low, high)))
+  last_is m low high = rw all.lasts (get_or-replicate o.n (m - 1) 31 0 (omega (arith, low, high)))
 
   everybody_present : (number m : ℕ) → 1 ≤ number → number ≤ 31 → 1 ≤ m → m ≤ o.n → present o number m ≡ true
   unfolding present
@@ -84,11 +89,11 @@ module _ (o : Opening) (all : Everybody o) where
   -- ---- an opening
 
   -- row 1's later conditions fail
-  row_1 : bad_opening o ≡ before.bad_opening (without_days o)
+  row_1 : bad_opening o ≡ before.bad_opening (without_presence o)
   unfolding bad_opening
   row_1 =
-      let firsts : length o.firsts ≡ o.n = ap length all.first ∙ length-replicate o.n 1 in
-      let lasts : length o.lasts ≡ o.n = ap length all.last ∙ length-replicate o.n 31 in
+      let firsts : length o.firsts ≡ o.n = ap length all.firsts ∙ length-replicate o.n 1 in
+      let lasts : length o.lasts ≡ o.n = ap length all.lasts ∙ length-replicate o.n 31 in
       rw (firsts, lasts, eq-eqb o.n o.n refl) (or-false _ ∙ or-false _)
 
   -- and so does row 10
@@ -105,7 +110,7 @@ module _ (o : Opening) (all : Everybody o) where
           let bad = found_passes (λ m. bad_presence (first_day o m) (last_day o m)) o.n inside in
           absurd (true≢false (sym (rw (first_is (bad10 + 1) (omega arith) (omega (arith, inside)), last_is (bad10 + 1) (omega arith) (omega (arith, inside))) at bad)))
 
-  opening_is : (s : Status) → opening_refusal s o ≡ before.opening_refusal s (without_days o)
+  opening_is : (s : Status) → opening_refusal s o ≡ before.opening_refusal s (without_presence o)
   unfolding opening_refusal opening_rows row◌when◌else◌
   opening_is s = rw (row_1, row_10) refl
 
@@ -171,7 +176,7 @@ module _ (o : Opening) (all : Everybody o) where
 
   -- rows 5 and 6, where rows 3 and 4 let the day pass
   account_rows_are : (last : ℕ) (d : DayInput) → 1 ≤ o.n → bad_day_number last d.terms.number ≡ false → bad_input o d ≡ false
-      → account_rows o d ≡ before.account_rows (without_days o) d
+      → account_rows o d ≡ before.account_rows (without_presence o) d
   unfolding account_rows
   account_rows_are last d members_some e3 e4 =
       ap₂ (λ (bad5 : ℕ) (met : Bool). row (BadHeading bad5) when met else row (BadAmount bad6) when ltb bad6 count else clear)
@@ -205,7 +210,7 @@ module _ (o : Opening) (all : Everybody o) where
               let good : first_bad_heading o number nobody d.headings ≡ count = omega (arith, ltb-false _ count e, bad_heading_le o number nobody d.headings) in
               missing_is number some few d.headings members_some (sized o d e4).some good
 
-  day_is : (s : Status) (last : ℕ) (d : DayInput) (room : ℕ) → 1 ≤ o.n → day_refusal s o last d room ≡ before.day_refusal s (without_days o) last d room
+  day_is : (s : Status) (last : ℕ) (d : DayInput) (room : ℕ) → 1 ≤ o.n → day_refusal s o last d room ≡ before.day_refusal s (without_presence o) last d room
   unfolding day_refusal day_rows
   day_is s last d room members_some =
       row_alike OutOfTurn (not (is_open s))
@@ -216,16 +221,12 @@ module _ (o : Opening) (all : Everybody o) where
 
 -- ---- the registers
 
--- a register without first and last days
-abbrev register_without : Register → Register
-register_without g = record { status = g.status; held = without_days g.held; days = g.days }
-
 -- what is held while it is open
 abbrev Held : Register → Type 0
 Held g = is_open g.status ≡ true → Everybody g.held × (1 ≤ g.held.n)
 
 row_closed : (g : Register) (d : DayInput) (room : ℕ) → is_open g.status ≡ false
-    → before.day_refusal g.status (without_days g.held) (last_number g.days) d room ≡ day_refusal g.status g.held (last_number g.days) d room
+    → before.day_refusal g.status (without_presence g.held) (last_number g.days) d room ≡ day_refusal g.status g.held (last_number g.days) d room
 unfolding day_refusal row◌when◌else◌
 row_closed g d room e = rw e refl
 
@@ -235,7 +236,7 @@ refusal_is g (Call.opening o) h b = sym (opening_is o b g.status)
 refusal_is g (Call.day d room) h b = by (is_open g.status) refl
   where
     by : (t : Bool) → is_open g.status ≡ t
-        → before.day_refusal g.status (without_days g.held) (last_number g.days) d room ≡ day_refusal g.status g.held (last_number g.days) d room
+        → before.day_refusal g.status (without_presence g.held) (last_number g.days) d room ≡ day_refusal g.status g.held (last_number g.days) d room
     by true e = sym (day_is g.held (h e).0 g.status (last_number g.days) d room (h e).1)
     by false e = row_closed g d room e
 refusal_is g (Call.closing room) h b = refl
@@ -293,37 +294,44 @@ registers_are g (c ∷ cs) h (b, all) =
     ap (λ (x : Register). fold (λ g c. before.step g (call_before (call_of c.asked))) x cs) (step_is g call h b)
     ∙ registers_are (step g call) cs (held_more g call h b) all
 
-module _ (cs : List Made) (c : Made) (holds : Holds start (cs ++ (c ∷ []))) (all : AllBringEverybody (cs ++ (c ∷ []))) where
+module _ (earlier later : List Made) (c : Made) (holds : Holds start (earlier ++ (later ++ (c ∷ []))))
+    (closed : is_open (register_after start earlier).status ≡ false) (all : AllBringEverybody (later ++ (c ∷ []))) where
+  abbrev begun : Register
+  begun = register_after start earlier
+
   abbrev g : Register
-  g = register_after start cs
+  g = register_after begun later
 
   abbrev call : Call
   call = call_of c.asked
 
-  none_held : Held start
-  none_held e = absurd (true≢false (sym e))
+  agreed : Agrees g c
+  agreed = last_agrees begun later c (holds_from start earlier (later ++ (c ∷ [])) holds)
+
+  none_held : Held begun
+  none_held e = absurd (true≢false (sym e ∙ closed))
 
   everybody : Held g
-  everybody = held_after start cs none_held (split_all cs (c ∷ []) all).0
+  everybody = held_after begun later none_held (split_all later (c ∷ []) all).0
 
   brings : BringsEverybody call
-  brings = (split_all cs (c ∷ []) all).1.0
+  brings = (split_all later (c ∷ []) all).1.0
 
-  register_is : register_before cs ≡ register_without g
-  register_is = registers_are start cs none_held (split_all cs (c ∷ []) all).0
+  register_is : register_before begun later ≡ register_without g
+  register_is = registers_are begun later none_held (split_all later (c ∷ []) all).0
 
-  answer_is_lem : c.answer ≡ before.answer (register_before cs) (call_before call)
+  answer_is_lem : c.answer ≡ before.answer (register_before begun later) (call_before call)
   unfolding answer before.answer
   answer_is_lem =
-      (last_agrees start cs c holds).answer
+      agreed.answer
       ∙ ap₂ answer_by (sym (refusal_is g call everybody brings))
       (sym (ap (λ (x : Register). returned x (call_before call)) (step_is g call everybody brings) ∙ returned_is (step g call) call))
       ∙ ap (λ (x : Register). before.answer x (call_before call)) (sym register_is)
 
-  buffer_is_lem : c.after ≡ before.buffer (register_before cs) (call_before call) (lent c.asked)
+  buffer_is_lem : c.after ≡ before.buffer (register_before begun later) (call_before call) (lent c.asked)
   unfolding buffer before.buffer
   buffer_is_lem =
-      (last_agrees start cs c holds).buffer
+      agreed.buffer
       ∙ ap₂ (λ (x : Verdict) (w : List ℕ). if_accepted x w (lent c.asked)) (sym (refusal_is g call everybody brings))
       (sym (ap (λ (x : Register). written x (call_before call)) (step_is g call everybody brings) ∙ written_is (step g call) call))
       ∙ ap (λ (x : Register). before.buffer x (call_before call) (lent c.asked)) (sym register_is)

@@ -1,5 +1,5 @@
 -- The refusal table as it was before Change 7, when an opening brought no first and last days: rows 1 and 5 as document 01 has them, and no row
--- 10; and the answers and buffers by it. It reads no first or last day. The figures of accepted calls are as they were. It is here for the
+-- 10; and the answers and buffers by it. It reads no first or last day, and figures are those of openings that have none. It is here for the
 -- comparison in AsBefore.antt alone. The worked calls of the time hold it.
 use mathlib.Core.Path.{◌≡◌, refl}
 use mathlib.Core.Bool.{Bool, not, ◌||◌, cond}
@@ -18,23 +18,26 @@ use Rattle.methodology.specs.Register.{Call, Register, start, last_number, accep
 use Rattle.methodology.proofs.Samples.{computed, Exchange, lent}
 use Rattle.methodology.proofs.WorkedCalls.{everybody_lists}
 
--- an opening, and a call, without first and last days
-abbrev pub without_days : Opening → Opening
-without_days o = record { n = o.n; k = o.k; groups = o.groups; firsts = []; lasts = [] }
+-- an opening, a call and a register without first and last days
+abbrev pub without_presence : Opening → Opening
+without_presence o = record { n = o.n; k = o.k; groups = o.groups; firsts = []; lasts = [] }
 
 abbrev pub call_before : Call → Call
-call_before (Call.opening o) = Call.opening (without_days o)
+call_before (Call.opening o) = Call.opening (without_presence o)
 call_before (Call.day d room) = Call.day d room
 call_before (Call.closing room) = Call.closing room
 
--- Row 1: "n, k or a group outside its limit, or group list not n long". "Opening 2, 1."
+abbrev pub register_without : Register → Register
+register_without g = record { status = g.status; held = without_presence g.held; days = g.days }
+
+-- Row 1: "n, k or a group outside its limit, or group list not n long"; "opening 2, 1".
 abbrev pub bad_opening : Opening → Bool
 bad_opening o = n_outside o.n || k_outside o.k || list_any group_outside o.groups || not (eqb (length o.groups) o.n)
 
 abbrev pub opening_refusal : Status → Opening → Verdict
 opening_refusal s o = row OutOfTurn when is_open s else row BadOpening when bad_opening o else clear
 
--- Row 5. "A member skipped"; "the last members are missing".
+-- Row 5: "a member skipped"; "the last members are missing".
 abbrev pub member_skipped : (prev h : Heading) → Bool
 member_skipped prev h = ltb (prev.member + 1) h.member
 

@@ -1,3 +1,4 @@
+pub mod Openings
 pub mod Present
 pub mod Presence
 pub mod Before

@@ -3,39 +3,32 @@
 use mathlib.Core.Path.{◌≡◌, refl, sym, ap, subst, ◌∙◌}
 use mathlib.Core.Bool.{Bool, true, false, cond}
 use mathlib.Core.List.{List, [], ◌∷◌, ◌++◌}
-use Prim.Native.Nat.{ℕ, ◌+◌, ◌-◌, ◌*◌, ◌≤◌, ◌<◌}
+use Prim.Native.Nat.{ℕ, ◌-◌, ◌*◌, ◌≤◌, ◌<◌}
 use native.Mathlib.Omega.{arith}
-use lib.Dec.{ltb, eqb}
+use lib.Dec.{eqb}
 use lib.ListN.{length, replicate}
-use borrow.Author.Tests.{ltb-true, eqb-false}
-use Rattle.std.specs.Prelude.{Option, Some, None, Ok, Err}
-use Rattle.std.proofs.lemmas.Bool.Decides.{nat_tests}
-use Rattle.std.specs.List.{AllByRecursion, position_or_len}
+use borrow.Author.Tests.{eqb-false}
+use Rattle.std.specs.List.{AllByRecursion}
 use Rattle.numbers.specs.Sums.{Σ}
 use Rattle.numbers.specs.Rounding.{ceil_div}
 use Rattle.numbers.proofs.Lists.{◌∈◌, mem_keep, every_mem}
 use Rattle.numbers.proofs.Rounding.{ceil_le}
 use Rattle.numbers.proofs.Sums.{Σ-left_out}
 use Rattle.methodology.specs.declared.Opening.{Opening}
-use Rattle.methodology.specs.declared.Status.{Status}
-use Rattle.methodology.specs.declared.Refusal.{Refusal}
-use Rattle.methodology.specs.declared.Refusal.TheVariants.{OutOfTurn, BadOpening, BadPresence}
-use Rattle.methodology.specs.Account.{members, first_day, last_day, present, DayInput, accounts}
+use Rattle.methodology.specs.declared.Refusal.TheVariants.{BadPresence}
+use Rattle.methodology.specs.Account.{present, DayInput, accounts}
 use Rattle.methodology.specs.Member.{accounts_of, loss}
 use Rattle.methodology.specs.Day.{total, scale, share, five, dailies}
 use Rattle.methodology.specs.Contribution.{KeptDay, reported_max_eul, highest, counted, sum_of_shares, charge, raw, funded, unfunded, three, contributions}
-use Rattle.methodology.specs.RowNumbers.{row_number, row_index}
-use Rattle.methodology.specs.Refusals.{Verdict, clear, row◌when◌else◌, is_open, bad_opening, bad_presence, opening_rows, opening_refusal}
+use Rattle.methodology.specs.Refusals.{clear, is_open, bad_opening}
 use Rattle.methodology.specs.Register.{Call, Register, start, refusal, accept, step, returned, written, accepted, refused_at, answer, buffer}
 use Rattle.methodology.specs.Text.{stretch}
 use Rattle.methodology.proofs.Passed.{step_clear, either}
 use Rattle.methodology.proofs.Counted.{counted_some}
-use Rattle.validation.proofs.OpeningPasses.{found_passes, below_fails}
 use Rattle.period.specs.declared.Period.{Period}
-use Rattle.period.specs.Calls.{held_by}
-use Rattle.period.specs.Follows.{Reached}
-use Rattle.period.proofs.InRange.{open_ranged, held_opened}
-use Rattle.period.proofs.Reach.{status_counts}
+use Rattle.period.specs.Calls.{held_by, opening_row, opened_period, day_row, sized_period, closing_row, closed_period}
+use Rattle.period.specs.Follows.{Reached, fresh, by_opening, by_day, by_closing}
+use Rattle.period.proofs.Reach.{opening_back, opening_passed, status_counts}
 use Rattle.demand3.specs.Made.{Asked, Made, call_of}
 use Rattle.demand3.specs.Demand3.{raw_in, Holds, register_after}
 use Rattle.demand3.proofs.Covering.{raw_is}
@@ -43,8 +36,9 @@ use Rattle.demand3.proofs.EveryList.{last_agrees}
 use Rattle.fund.proofs.Dailies.{five_wide}
 use Rattle.answers.proofs.RefusalRows.{is_clear, is_told}
 use Rattle.as_printed.proofs.DaySums.{stretch_is}
-use Rattle.presence.specs.Presence.{days_present, charge_by_days_present, FirstBad, Presence}
-use Rattle.presence.proofs.Present.{loss_none, share_none, five_of_none, day_has}
+use Rattle.presence.specs.Presence.{GoodDays, days_present, charge_by_days_present, FirstBad, Presence}
+use Rattle.presence.proofs.Openings.{there, there_if, lists_long, row_1_else, refused_by_10, opens, named, reported_by_10}
+use Rattle.presence.proofs.Present.{nobody_there, loss_none, share_none, five_of_none, day_has}
 
 -- ---- the days that a register keeps
 
@@ -148,48 +142,9 @@ module _ (cs : List Made) (c : Made) (out figures : List ℕ) (holds : Holds sta
 
 -- ---- an opening
 
--- the number and the index of a verdict's row
-abbrev number_told : Verdict → ℕ
-number_told (Ok _) = 0
-number_told (Err met) = row_number met
-
-abbrev index_told : Verdict → Option ℕ
-index_told (Ok _) = None
-index_told (Err met) = row_index met
-
--- row 10 is met by the first member that is bad
-named : (s : Status) (o : Opening) (m : ℕ) (met : Refusal) → opening_refusal s o ≡ Err met → row_number met ≡ 10 → row_index met ≡ Some m → FirstBad o m
-unfolding opening_refusal opening_rows row◌when◌else◌
-named s o m met e n i = by (is_open s) (bad_opening o) (ltb bad10 o.n) refl e
-  where
-    bad : (l : ℕ) → Bool
-    bad l = bad_presence (first_day o l) (last_day o l)
-
-    bad10 : ℕ
-    bad10 = position_or_len bad (members o.n)
-
-    numbered : {v : Verdict} → v ≡ Err met → number_told v ≡ 10
-    numbered q = ap number_told q ∙ n
-
-    found : ltb bad10 o.n ≡ true → FirstBad o (bad10 + 1)
-    found q =
-        let inside : bad10 < o.n = ltb-true bad10 o.n q in
-        record {
-          least = omega arith;
-          most = omega (arith, inside);
-          bad = found_passes bad o.n inside;
-          good_before = λ l low below. below_fails bad o.n l low (omega (arith, below, inside)) (omega (arith, below));
-        }
-
-    by : (a b t : Bool) → ltb bad10 o.n ≡ t
-        → row OutOfTurn when a else row BadOpening when b else row (BadPresence (bad10 + 1)) when t else clear ≡ Err met → FirstBad o m
-    by true b t q f = absurd (let no_way : ⊥ = omega (arith, numbered f) in no_way)
-    by false true t q f = absurd (let no_way : ⊥ = omega (arith, numbered f) in no_way)
-    by false false true q f = subst (FirstBad o) (let z : Some (bad10 + 1) ≡ Some m = ap index_told f ∙ i in cc) (found q)
-    by false false false q f = absurd (let no_way : ⊥ = omega (arith, numbered f) in no_way)
-
 answered_by_10 : (cs : List Made) (c : Made) (o : Opening) (m : ℕ) → Holds start (cs ++ (c ∷ []))
-    → c.asked ≡ Asked.opening o → c.answer ≡ refused_at 10 m → FirstBad o m
+    → c.asked ≡ Asked.opening o → c.answer ≡ refused_at 10 m
+    → (is_open (register_after start cs).status ≡ false) × (bad_opening o ≡ false) × FirstBad o m
 unfolding answer refusal
 answered_by_10 cs c o m holds is said =
     let g = register_after start cs in
@@ -200,25 +155,41 @@ answered_by_10 cs c o m holds is said =
 
 -- ---- a period
 
-days_in_range : {p : Period} → Reached p → is_open p.status ≡ true
-    → (m : ℕ) → 1 ≤ m → m ≤ p.held.n → bad_presence (first_day (held_by p) m) (last_day (held_by p) m) ≡ false
-days_in_range {p} r is m low high =
-    let o = held_opened (open_ranged p (status_counts r ∙ is)) in
-    let i : m - 1 < p.held.n = omega (arith, low, high) in
-    let first = o.first_some (m - 1) i in
-    let order = o.in_order (m - 1) i in
-    let last = o.last_few (m - 1) i in
-    grind (arith, nat_tests)
+abbrev HeldDays : Period → Type 0
+HeldDays p = (m : ℕ) → 1 ≤ m → m ≤ p.held.n → GoodDays (held_by p) m
+
+opened_days : (p : Period) (o : Opening) → opening_row p o ≡ clear → HeldDays (opened_period o)
+opened_days p o e m low high =
+    let l = opening_passed p o e in
+    let i : m - 1 < o.n = omega (arith, low, high) in
+    subst (λ (o : Opening). GoodDays o m) (sym (opening_back o l.groups_long l.firsts_long l.lasts_long l.members_few))
+    (record { first_some = l.first_some (m - 1) i; in_order = l.in_order (m - 1) i; last_few = l.last_few (m - 1) i })
+
+-- by the last call: an accepted opening is held, and no other call changes what is
+held_days : {p : Period} → Reached p → HeldDays p
+held_days fresh = λ m low high. let no_way : ⊥ = omega (arith, low, high) in absurd no_way
+held_days (by_opening {p} {o} w m) = subst HeldDays (sym m.period) (either HeldDays (opening_row p o) (opened_period o) p (opened_days p o) (held_days w))
+held_days (by_day {p} {d} {before} w m) = subst HeldDays (sym m.period) (either HeldDays (day_row p d (length before)) (sized_period p d) p (λ e. held_days w) (held_days w))
+held_days (by_closing {p} {before} w m) = subst HeldDays (sym m.period) (either HeldDays (closing_row p (length before)) (closed_period p) p (λ e. held_days w) (held_days w))
 
 -- ---- the claim
 
 pub presence : Presence
 presence =
     record {
+      there = there;
+      there_if = there_if;
+      lists_long = lists_long;
+      row_1_else = row_1_else;
+      refused_by_10 = λ g o m closed good. refused_by_10 o g closed good m;
+      opens = λ g o closed good. opens o g closed good;
+      reported_by_10 = λ o m rest good first short. reported_by_10 o good short m rest first;
       day_has = day_has;
+      nobody_there = nobody_there;
+      answered_by_10 = answered_by_10;
       day_writes = day_writes;
       closing_charges = closing_charges;
       absent_throughout = absent_throughout;
-      answered_by_10 = answered_by_10;
-      days_in_range = days_in_range;
+      held_days = held_days;
+      status_counts = status_counts;
     }

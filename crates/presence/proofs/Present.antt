@@ -2,13 +2,14 @@
 -- are those of no account, 0 under every scenario and its own, and it is in no sum.
 use mathlib.Core.Path.{◌≡◌, refl, ◌∙◌}
 use mathlib.Core.Bool.{Bool, true, false, not}
-use mathlib.Core.List.{List, []}
+use mathlib.Core.List.{List, [], ◌∷◌}
 use Prim.Native.Nat.{ℕ, ◌*◌, ◌≤◌, ◌<◌}
 use native.Mathlib.Omega.{arith}
 use lib.IntN.{ℤ, pos}
 use lib.Dec.{eqb}
 use lib.ListN.{length, replicate}
-use borrow.Author.Tests.{eqb-true, eqb-false}
+use borrow.Author.Tests.{lt-ltb, eqb-true, eqb-false}
+use Rattle.std.specs.Prelude.{Err}
 use Rattle.std.specs.List.{list_any}
 use Rattle.numbers.specs.Lists.{descending}
 use Rattle.numbers.specs.Sums.{Σ, Σℤ}
@@ -18,13 +19,13 @@ use Rattle.numbers.proofs.Rounding.{ceil_le, round_le}
 use Rattle.numbers.proofs.Sums.{Σ-left_out, Σℤ-left_out}
 use Rattle.methodology.specs.declared.Opening.{Opening}
 use Rattle.methodology.specs.declared.Heading.{Heading}
-use Rattle.methodology.specs.declared.Refusal.TheVariants.{OutOfTurn, BadLengths}
+use Rattle.methodology.specs.declared.Refusal.TheVariants.{OutOfTurn, BadLengths, BadHeading}
 use Rattle.methodology.specs.Account.{members, present, nobody, DayInput, Account, account_at, accounts}
 use Rattle.methodology.specs.Member.{accounts_of, house_eul, half_of_clients, two_largest_of_r, part_b, part_c, member_eul, member_under, member_own, loss}
 use Rattle.methodology.specs.Day.{total, group_of, group_sum, share, value, reserve, estimate, five}
-use Rattle.methodology.specs.Refusals.{clear, is_open, bad_output, day_refusal}
+use Rattle.methodology.specs.Refusals.{clear, row◌when◌else◌, is_open, bad_output, member_outside, bad_heading, first_bad_heading, account_rows, day_refusal}
 use Rattle.methodology.specs.Register.{Call, Register, last_number, refusal}
-use Rattle.methodology.proofs.Passed.{passed}
+use Rattle.methodology.proofs.Passed.{passed, inside}
 use Rattle.methodology.proofs.RowLimits.{accounts_long}
 use Rattle.fund.proofs.Dailies.{five_none, five_some}
 use Rattle.validation.specs.Slices.{no_account}
@@ -113,10 +114,32 @@ module _ (o : Opening) (last : ℕ) (d : DayInput) (p : Passes o last d) where
         no_loss = λ m absent. loss_none o.k accts m (no_account_lem m absent);
         total_of_present =
             Σ-left_out (present o number) (members o.n) (loss o.k accts) (λ m i absent. loss_none o.k accts m (no_account_lem m absent));
-        group_of_present =
+        group_sum_of_present =
             λ m j. Σℤ-left_out (present o number) (group_of o m) (λ m'. member_under accts m' j) (λ m' i absent. under_none accts m' j (no_account_lem m' absent));
       }
 
 pub day_has : (g : Register) (d : DayInput) (room : ℕ) → refusal g (Call.day d room) ≡ clear
     → DayHas g.held d.terms.number d.headings (accounts g.held.k d)
 day_has g d room e = has g.held (last_number g.days) d (day_passed g d room e)
+
+-- ---- nobody there
+
+first_bad : (o : Opening) (number : ℕ) (h : Heading) → list_any (present o number) (members o.n) ≡ false → bad_heading o number nobody h ≡ true
+unfolding bad_heading
+first_bad o number h e = by (member_outside o.n h) refl
+  where
+    by : (t : Bool) → member_outside o.n h ≡ t → bad_heading o number nobody h ≡ true
+    by true q = rw q refl
+    by false q =
+        let (low, high) = inside 1 o.n h.member q in
+        rw (q, any_false (present o number) e (range_mem 1 o.n low (omega (arith, high)))) refl
+
+none_good : (o : Opening) (number : ℕ) (hs : List Heading) → 1 ≤ length hs → list_any (present o number) (members o.n) ≡ false → first_bad_heading o number nobody hs ≡ 0
+unfolding first_bad_heading
+none_good o number [] some e = let no_way : ⊥ = omega (arith, some) in absurd no_way
+none_good o number (h ∷ hs) some e = rw (first_bad o number h e) refl
+
+pub nobody_there : (o : Opening) (d : DayInput) → 1 ≤ length d.headings → list_any (present o d.terms.number) (members o.n) ≡ false
+    → account_rows o d ≡ Err (BadHeading 0)
+unfolding account_rows row◌when◌else◌
+nobody_there o d some e = rw (none_good o d.terms.number d.headings some e, lt-ltb 0 (length d.headings) some) refl

@@ -6,7 +6,18 @@ use Rattle.methodology.specs.Account.{DayInput, accounts, nobody}
 use Rattle.methodology.specs.Refusals.{bad_input, bad_day_number, first_bad_heading, last_missing, bad_amount}
 use Rattle.validation.specs.Slices.{Within, Rising}
 
--- rows 1 and 10: an opening within its limits
+-- row 1: an opening within its limits, and its lists n long
+pub record Limited (o : Opening) : Type 0 where
+  pub members_some : 1 ≤ o.n
+  pub members_few : o.n ≤ 32
+  pub scenarios_some : 1 ≤ o.k
+  pub scenarios_few : o.k ≤ 16
+  pub groups_long : length o.groups ≡ o.n
+  pub group_few : (i : ℕ) → i < o.n → get_or o.groups i 0 ≤ 32
+  pub firsts_long : length o.firsts ≡ o.n
+  pub lasts_long : length o.lasts ≡ o.n
+
+-- rows 1 and 10: its first and last days in order, too
 pub record Opened (o : Opening) : Type 0 where
   pub members_some : 1 ≤ o.n
   pub members_few : o.n ≤ 32

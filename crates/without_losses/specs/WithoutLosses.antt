@@ -103,8 +103,8 @@ pub record WithoutLosses : Type 2 where
   -- "Such a day is now accepted": a day that rows 2 to 6 let pass is, whatever its losses
   pub day_accepted : (g : Register) (d : DayInput) (room : ℕ) → g.status ≡ Open → room ≡ 5 * g.held.n → Passes g.held (last_number g.days) d
       → refusal g (Call.day d room) ≡ clear
-  -- and in every open period, of an opening that rows 1 and 10 let pass, there is one that is, under any number above the last on which somebody
-  -- is present
+  -- and in every open period, of an opening that rows 1 and 10 let pass, there is one that is, under any number that is above the last accepted
+  -- one and on which somebody is present, whoever else is absent
   pub there_is_one : (g : Register) (number m : ℕ) → g.status ≡ Open → opening_rows g.held ≡ clear → last_number g.days < number
       → 1 ≤ m → m ≤ g.held.n → present g.held number m ≡ true
       → (d : DayInput) × (d.terms.number ≡ number) × AcceptedWithout g d (5 * g.held.n)
