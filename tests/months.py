@@ -1,5 +1,6 @@
 #!/usr/bin/env python3
-"""Seeded months for the comparison: valid, with days without losses, edge, damaged and large ones.
+"""Seeded months for the comparison: valid ones, in most of which members join or leave, ones with days without losses, edge, damaged and large
+ones.
 
 month(seed, index) gives the text of one; the same two give the same text.
 months.py SEED INDEX writes it on standard output.
@@ -183,8 +184,8 @@ def valid(rng, n=None, k=None, days=None):
 
 
 def again(month, day, number):
-    """A day of this number with that day's accounts, but for those of members who are absent on it; one who was absent on that day has a house
-    account, like the first of all. Where nobody is present the accounts stay as they are."""
+    """A day of this number with that day's accounts, but for those of members who are absent on it; one who was absent then gets a house account,
+    with the amounts of that day's first account. Where nobody is present the accounts stay as they are."""
     members = month.present(number) if isinstance(number, int) else []
     absent = set(range(1, month.n + 1)) - set(members)
     rows = [list(row) for row in day.accounts if not members or row[0] not in absent]

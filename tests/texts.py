@@ -844,9 +844,9 @@ JOINS = [
     ("10 for the second member's last day 32", stored("joins-07")),
     ("two members: 7 dollars beside 915, 18 and 301 millions", month(
         1, [0, 0], (2, falls(1, 915848264), falls(2, 7)), (21, falls(1, 18109428), falls(2, 7)), (26, falls(1, 301376274), falls(2, 7)))),
-    ("two members, one of whom has left and one is there; 9 for a margin that is empty", stored("joins-08")),
+    ("two members, one of whom has left and one is there; 9 for an extra of 14 digits", stored("joins-08")),
     ("two members of one group, one of whom is there on the second and the third of four days; the last is one without losses", stored("joins-09")),
-    ("four members: halves, halves of the others and quarters", stored("joins-10")),
+    ("four members: halves of two, halves of one of them and another, and quarters", stored("joins-10")),
     ("four members, two of one group: a worst scenario for each", month(
         3, [1, 32, 0, 1], (1, falls(1, 100, 100, 100), falls(2, 0, 100, 100, margin=30), falls(3, 100, 80, 150, margin=110),
                            falls(4, 0, 80, 0, margin=200)),
@@ -865,7 +865,7 @@ JOINS = [
     ("two members, one of whom is absent on all four days, two of them without losses", stored("joins-18")),
     ("one member, three scenarios: a day without losses, and three from millions to millions of millions", stored("joins-19")),
     ("one member, present on all days: one dollar", stored("joins-20")),
-    ("two members of one group, one of whom has thirteen clients and the whole loss", stored("joins-21")),
+    ("two members of one group, one of whom has twelve clients and the whole loss", stored("joins-21")),
     ("one member, present from day 16 to day 26", stored("joins-22")),
     ("one member: a day without losses alone", stored("joins-23")),
     ("one member, three scenarios: a day without losses, then three that count", stored("joins-24")),

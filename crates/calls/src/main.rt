@@ -220,7 +220,7 @@ impl<'a, P: Print> Calls<'a, P> {
     }
 
     // A day of three members, with these accounts and NPVs and no margins.
-    fn those(
+    fn without_margins(
         &mut self,
         call: u64,
         number: u64,
@@ -548,7 +548,7 @@ impl<'a, P: Print> Calls<'a, P> {
 
     // Row 1 by first and last days, and row 10. None of these opens the period, which is closed.
     fn days_of_members(&mut self) -> io::Result<()> {
-        // Row 1 by the length of either list; also where 10 holds with it.
+        // Row 1 by the length of either list; then where 10 holds too, by a length, by k and by a group.
         self.opening_for(120, 3, 1, &NONE, &[1, 10], &[31, 31, 10])?;
         self.opening_for(121, 3, 1, &NONE, &[1, 10, 1, 1], &[31, 31, 10])?;
         self.opening_for(122, 3, 1, &NONE, &[1, 10, 1], &[31, 31])?;
@@ -579,22 +579,22 @@ impl<'a, P: Print> Calls<'a, P> {
         self.three_for(138, [0, 10, 1], [31, 31, 10])?;
         // The ninth, without the second. Row 5 by an account of it, by the first one's skipped, and by the third one's missing.
         self.good(139, 9)?;
-        self.those(140, 9, &[house(3)], &[60, 0])?;
-        self.those(141, 9, &[house(1)], &[40, 0])?;
+        self.without_margins(140, 9, &[house(3)], &[60, 0])?;
+        self.without_margins(141, 9, &[house(1)], &[40, 0])?;
         // With an account of it 4 comes before 5, and so does 3.
         self.with_lengths(142, 9, [3, 6, 3, 3], 14)?;
         self.good(143, 32)?;
         let first_and_third = [40_000_000, 0, 60_000_000, 0];
-        self.those(144, 9, &[house(1), house(3)], &first_and_third)?;
+        self.without_margins(144, 9, &[house(1), house(3)], &first_and_third)?;
         // The tenth, with all three: the second's may not be skipped.
-        self.those(145, 10, &[house(1), house(3)], &first_and_third)?;
+        self.without_margins(145, 10, &[house(1), house(3)], &first_and_third)?;
         let all = [10_000_000, 0, 20_000_000, 0, 40_000_000, 0];
         self.houses(146, 10, all, NONE, NONE)?;
         // The eleventh, without the third: by an account of it, and by the second one's missing. Its Max EUL is the highest.
         self.good(147, 11)?;
-        self.those(148, 11, &[house(1), account(1, 1, KIND_R)], &[60, 0, 5, 0])?;
+        self.without_margins(148, 11, &[house(1), account(1, 1, KIND_R)], &[60, 0, 5, 0])?;
         let first_and_second = [120_000_000, 0, 110_000_000, 0];
-        self.those(149, 11, &[house(1), house(2)], &first_and_second)?;
+        self.without_margins(149, 11, &[house(1), house(2)], &first_and_second)?;
         // The day on which one of the two is absent counts as share 0 in its mean: D is 3 for all.
         self.closing(150, &mut [7; 9])
     }

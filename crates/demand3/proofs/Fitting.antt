@@ -127,13 +127,13 @@ narrow_opened o e =
     record {
       held =
           record {
-            n = omega (arith, l.members_few);
-            k = omega (arith, l.scenarios_few);
-            groups = narrow_list o.groups (λ i h. l.group_few i (omega (arith, h, l.groups_long)));
+            n = omega (arith, l.in_limits.members_few);
+            k = omega (arith, l.in_limits.scenarios_few);
+            groups = narrow_list o.groups (λ i h. l.in_limits.group_few i (omega (arith, h, l.in_limits.groups_long)));
             firsts =
                 narrow_list o.firsts
-                (λ i h. let place : i < o.n = omega (arith, h, l.firsts_long) in omega (arith, l.in_order i place, l.last_few i place));
-            lasts = narrow_list o.lasts (λ i h. let place : i < o.n = omega (arith, h, l.lasts_long) in omega (arith, l.last_few i place));
+                (λ i h. let place : i < o.n = omega (arith, h, l.in_limits.firsts_long) in omega (arith, l.in_order i place, l.last_few i place));
+            lasts = narrow_list o.lasts (λ i h. let place : i < o.n = omega (arith, h, l.in_limits.lasts_long) in omega (arith, l.last_few i place));
           };
       accrued = none_accrued;
     }

@@ -1,5 +1,5 @@
--- What a refusal table can say: a row's number is one that occurs, and an index is at most 256, since rows 5 and 6 come after row 4, and row
--- 10, whose member has its place, after row 1.
+-- What a refusal table can say: a row's number is one that occurs, and an index, or row 10's member number, is at most 256, since rows 5 and 6
+-- come after row 4 and row 10 after row 1.
 use mathlib.Core.Path.{◌≡◌, refl}
 use mathlib.Core.Bool.{Bool, true, false, not, ◌||◌, cond}
 use mathlib.Core.List.{List, [], ◌∷◌}
@@ -88,7 +88,13 @@ unfolding opening_rows
 opening_rows_few o =
     when_few BadOpening _ _ tt
     (λ e. when_few (BadPresence _) _ clear
-    (omega (arith, members_few o e, prefix_len-le-length (λ m. not (bad_presence (first_day o m) (last_day o m))) (members o.n), length-range_with_len 1 o.n)) (λ f. tt))
+    (omega (
+      arith,
+      members_few o e,
+      prefix_len-le-length (λ m. not (bad_presence (first_day o m) (last_day o m))) (members o.n),
+      length-range_with_len 1 o.n,
+    ))
+    (λ f. tt))
 
 pub opening_few : (s : Status) (o : Opening) → RowFew (opening_refusal s o)
 unfolding opening_refusal

@@ -491,7 +491,7 @@ abbrev while_fresh : List Exchange
 while_fresh =
     on 6 (house 1 ∷ house 2 ∷ house 3 ∷ []) gets refused 2
     ∷ closing 9 gets refused 2
-    -- row 1: n, k, a group, the first or the last, the length of the list; `opened_at_limits` has the last good ones
+    -- row 1: n, k, a group, the first or the last, the length of their list; `opened_at_limits` has the last good ones, `not_n_long` the lists of days
     ∷ brings 0 2 [] gets refused 1
     ∷ brings 33 2 (replicate 33 0) gets refused 1
     ∷ brings 3 0 (4 ∷ 4 ∷ 0 ∷ []) gets refused 1

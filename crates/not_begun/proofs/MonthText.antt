@@ -21,6 +21,7 @@ use Rattle.methodology.specs.Register.{Call, Register, start, refusal, step}
 use Rattle.methodology.specs.Text.{tab, LF, bytes, same, split, decimal, number_of, every_field, also, bad_bytes, numbers_after, printed, Expected, period, member, day, after_end, read_period, Read, goes_on, opened, with_member, read_member, read_line, followed_by, report_from, report_of}
 use Rattle.methodology.proofs.Splits.{split_first}
 use Rattle.methodology.proofs.Short.{printed_short}
+use Rattle.validation.specs.Passing.{InLimits}
 use Rattle.validation.proofs.OpeningPasses.{opening_leaves}
 use Rattle.as_printed.proofs.ReadBack.{Digit, all_digits, reads_back_as_text}
 use Rattle.as_printed.proofs.PrintedLines.{Word, without, tabbed, line_with, line_fields_lem, line_ended}
@@ -54,7 +55,8 @@ every_back (x ∷ xs) few = rw (reads_back_as_text x few.0, every_back xs few.1)
 reads_back : (w numbers : List ℕ) → Begins w → AllByRecursion (λ x. x < 10 ^ 13) numbers → numbers_after w (length numbers) (line_with w numbers) ≡ Some numbers
 unfolding numbers_after
 reads_back w numbers s few =
-    rw (line_fields_lem w numbers (without tab w s.word.0), s.alike, eq-eqb (suc (length (map decimal numbers))) (length numbers + 1) (ap suc (length-map numbers decimal) ∙ omega arith), every_back numbers few)
+    let many : eqb (suc (length (map decimal numbers))) (length numbers + 1) ≡ true = eq-eqb _ _ (ap suc (length-map numbers decimal) ∙ omega arith) in
+    rw (line_fields_lem w numbers (without tab w s.word.0), s.alike, many, every_back numbers few)
 
 -- the line at the front of a text is read, and then the rest
 line_read_lem : (i : ℕ) (w numbers rest : List ℕ) (e : Expected) → Begins w → length numbers ≤ 4
@@ -77,23 +79,15 @@ begins_end = record { word = (refl, refl); short = omega arith; ascii = (refl, (
 
 -- ---- the text
 
--- an opening that a text can bring to its call: n and k within their limits, and no number of more than 13 digits
+-- an opening that a text can bring to row 10: within the limits of row 1, and no first or last day of more than 13 digits
 pub record Written (o : Opening) : Type 0 where
-  pub members_some : 1 ≤ o.n
-  pub members_few : o.n ≤ 32
-  pub scenarios_some : 1 ≤ o.k
-  pub scenarios_few : o.k ≤ 16
-  pub groups_long : length o.groups ≡ o.n
-  pub firsts_long : length o.firsts ≡ o.n
-  pub lasts_long : length o.lasts ≡ o.n
-  pub group_short : (i : ℕ) → i < o.n → get_or o.groups i 0 < 10 ^ 13
+  pub in_limits : InLimits o
   pub first_short : (i : ℕ) → i < o.n → get_or o.firsts i 0 < 10 ^ 13
   pub last_short : (i : ℕ) → i < o.n → get_or o.lasts i 0 < 10 ^ 13
 
-module _ (o : Opening) (l : Written o) where
-  -- the register after the opening
-  abbrev opened_by_lem : Register
-  opened_by_lem = step start (Call.opening o)
+module _ (o : Opening) (w : Written o) where
+  abbrev l : InLimits o
+  l = w.in_limits
 
   abbrev period_line : List ℕ
   period_line = printed (bytes "period") (o.n ∷ o.k ∷ [])
@@ -131,9 +125,9 @@ module _ (o : Opening) (l : Written o) where
   unfolding read_line read_member with_member
   member_read count i rest h =
       let m = suc count in
-      let group : group_number o m < 10 ^ 13 = omega (arith, number_is o.groups count, l.group_short count h) in
-      let first : first_day o m < 10 ^ 13 = omega (arith, number_is o.firsts count, l.first_short count h) in
-      let last : last_day o m < 10 ^ 13 = omega (arith, number_is o.lasts count, l.last_short count h) in
+      let group : group_number o m < 10 ^ 13 = omega (arith, number_is o.groups count, l.group_few count h) in
+      let first : first_day o m < 10 ^ 13 = omega (arith, number_is o.firsts count, w.first_short count h) in
+      let last : last_day o m < 10 ^ 13 = omega (arith, number_is o.lasts count, w.last_short count h) in
       let numbers = m ∷ group_number o m ∷ first_day o m ∷ last_day o m ∷ [] in
       let read = reads_back (bytes "member") numbers begins_member (omega (arith, h, l.members_few), (group, (first, (last, tt)))) in
       line_read_lem i (bytes "member") numbers rest (member (up_to count)) begins_member (omega arith)
@@ -197,14 +191,7 @@ module _ (o : Opening) (good : opening_rows o ≡ clear) where
   written_lem =
       let l = opening_leaves o good in
       record {
-        members_some = l.members_some;
-        members_few = l.members_few;
-        scenarios_some = l.scenarios_some;
-        scenarios_few = l.scenarios_few;
-        groups_long = l.groups_long;
-        firsts_long = l.firsts_long;
-        lasts_long = l.lasts_long;
-        group_short = λ i h. omega (arith, l.group_few i h);
+        in_limits = l.in_limits;
         first_short = λ i h. omega (arith, l.in_order i h, l.last_few i h);
         last_short = λ i h. omega (arith, l.last_few i h);
       }

@@ -122,6 +122,7 @@ unfolding Σ
     by true e = omega arith
     by false e = omega arith
 
+-- where only that is 0 it may be left out
 pub Σ-left_out : {A : Type 0} (p : A → Bool) (xs : List A) (f : A → ℕ) → ((x : A) → x ∈ xs → p x ≡ false → f x ≡ 0) → Σ xs f ≡ Σ (filter p xs) f
 Σ-left_out p xs f none = Σ-eq xs f _ (λ x i. by (p x) refl (none x i)) ∙ sym (Σ-keep p xs f)
   where
@@ -177,7 +178,7 @@ unfolding Σℤ
 Σℤ-map g [] f = refl
 Σℤ-map g (x ∷ xs) f = ap (λ (z : ℤ). f (g x) +ℤ z) (Σℤ-map g xs f)
 
--- what fails a test adds 0
+-- where what fails a test is 0 it may be left out
 pub Σℤ-left_out : {A : Type 0} (p : A → Bool) (xs : List A) (f : A → ℤ) → ((x : A) → x ∈ xs → p x ≡ false → f x ≡ pos 0) → Σℤ xs f ≡ Σℤ (filter p xs) f
 unfolding Σℤ
 Σℤ-left_out p [] f none = refl

@@ -21,7 +21,7 @@ use Rattle.methodology.specs.Day.{scale}
 use Rattle.methodology.specs.Refusals.{Verdict, clear, row◌when◌else◌, is_open, bad_opening, opening_rows, closing_refusal}
 use Rattle.methodology.proofs.Passed.{passed}
 use Rattle.quotient.specs.Ranges.{greatest_total, Charge}
-use Rattle.validation.specs.Passing.{Opened}
+use Rattle.validation.specs.Passing.{InLimits}
 use Rattle.validation.proofs.OpeningPasses.{opening_leaves}
 use Rattle.period.specs.declared.Period.{Period}
 use Rattle.period.specs.Calls.{held_by, in_range, status_of, output_row, closing_row, sums_held}
@@ -70,8 +70,8 @@ in_range_by false s e = e
 pub open_ranged : (p : Period) → is_open (status_of p) ≡ true → Ranged p
 open_ranged p e = ranged p (in_range_by (in_range p) p.status e)
 
-pub held_opened : {p : Period} → Ranged p → Opened (held_by p)
-held_opened {p} r = opening_leaves (held_by p) r.opened
+pub held_opened : {p : Period} → Ranged p → InLimits (held_by p)
+held_opened {p} r = (opening_leaves (held_by p) r.opened).in_limits
 
 pub charges : {p : Period} → Ranged p → (i : ℕ) → i < length (sums_held p) → Charge p.accrued.highest (get_or (sums_held p) i 0) p.accrued.days
 charges {p} r i h =

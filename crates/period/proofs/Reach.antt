@@ -48,7 +48,7 @@ opening_passed p o e = opening_leaves o (opening_good p o e)
 opened_in_range : (o : Opening) → opening_rows o ≡ clear → in_range (opened_period o) ≡ true
 unfolding in_range
 opened_in_range o e =
-    let l = opening_leaves o e in
+    let l = (opening_leaves o e).in_limits in
     rw (opening_back o l.groups_long l.firsts_long l.lasts_long l.members_few, e) refl
 
 -- a day that the table lets pass

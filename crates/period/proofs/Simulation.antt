@@ -113,7 +113,7 @@ opened_is g o = ap (with_accrued (opened_period o)) (by_fields refl refl refl (n
 opened_good : (g : Register) (p : Period) (o : Opening) → opening_row p o ≡ clear → Good (accept g (Call.opening o)).held
 unfolding accept
 opened_good g p o e =
-    let l = opening_passed p o e in
+    let l = (opening_passed p o e).in_limits in
     record { groups_long = l.groups_long; firsts_long = l.firsts_long; lasts_long = l.lasts_long; members_few = l.members_few }
 
 pub opening_follows : {g : Register} {p left : Period} {o : Opening} {said : Answer} → Follows g p → OpeningMeets p o said left

@@ -108,7 +108,7 @@ impl Period {
         }
     }
 
-    // Whether rows 1 and 10 let the opening pass that it holds.
+    // Whether rows 1 and 10 let the opening pass that it holds. n comes first: a greater one than 32 has no lists in 32 places.
     #[tactic(auto, using(crate::proofs::InRange::many_members))]
     fn held_passes(&self) -> bool
         ensures { result ≡ is_ok (opening_rows (held_by self.now)) }

@@ -30,9 +30,10 @@ use Rattle.demand3.specs.Made.{Made, lent, call_of}
 use Rattle.demand3.specs.Demand3.{Agrees, Holds, register_after}
 use Rattle.demand3.proofs.EveryList.{holds_from, last_agrees}
 use Rattle.validation.proofs.DayPasses.{sized}
-use Rattle.validation.proofs.OpeningPasses.{found_passes, opening_leaves}
-use Rattle.validation.proofs.Presence.{over_at, over_none, below_last, missing_is_after}
-use Rattle.presence.specs.Presence.{has_account}
+use Rattle.validation.proofs.OpeningPasses.{opening_leaves}
+use Rattle.validation.proofs.Missing.{over_at, over_none, below_last, missing_is_after}
+use Rattle.validation.specs.Passing.{has_account}
+use Rattle.presence.proofs.Row10.{bad10, none_found}
 use Rattle.presence.proofs.Before.{without_presence, call_before, register_without}
 use Rattle.presence.proofs.Before as before
 
@@ -97,18 +98,13 @@ module _ (o : Opening) (all : Everybody o) where
       rw (firsts, lasts, eq-eqb o.n o.n refl) (or-false _ ∙ or-false _)
 
   -- and so does row 10
-  abbrev bad10 : ℕ
-  bad10 = position_or_len (λ m. bad_presence (first_day o m) (last_day o m)) (members o.n)
-
-  row_10 : ltb bad10 o.n ≡ false
-  row_10 = by (ltb bad10 o.n) refl
-    where
-      by : (t : Bool) → ltb bad10 o.n ≡ t → t ≡ false
-      by false e = refl
-      by true e =
-          let inside : bad10 < o.n = ltb-true bad10 o.n e in
-          let bad = found_passes (λ m. bad_presence (first_day o m) (last_day o m)) o.n inside in
-          absurd (true≢false (sym (rw (first_is (bad10 + 1) (omega arith) (omega (arith, inside)), last_is (bad10 + 1) (omega arith) (omega (arith, inside))) at bad)))
+  row_10 : ltb (bad10 o) o.n ≡ false
+  row_10 =
+      none_found o
+      (λ m low high.
+      let first = first_is m low high in
+      let last = last_is m low high in
+      record { first_some = omega (arith, first); in_order = omega (arith, first, last); last_few = omega (arith, last) })
 
   opening_is : (s : Status) → opening_refusal s o ≡ before.opening_refusal s (without_presence o)
   unfolding opening_refusal opening_rows row◌when◌else◌
@@ -204,7 +200,8 @@ module _ (o : Opening) (all : Everybody o) where
           ≡ (ltb (before.first_bad_heading o.n nobody d.headings) count || before.last_missing o.n d.headings)
       row_5 = rw (← first_bad_is number some few nobody d.headings) (by (ltb (first_bad_heading o number nobody d.headings) count) refl)
         where
-          by : (t : Bool) → ltb (first_bad_heading o number nobody d.headings) count ≡ t → (t || last_missing o number d.headings) ≡ (t || before.last_missing o.n d.headings)
+          by : (t : Bool) → ltb (first_bad_heading o number nobody d.headings) count ≡ t
+              → (t || last_missing o number d.headings) ≡ (t || before.last_missing o.n d.headings)
           by true e = refl
           by false e =
               let good : first_bad_heading o number nobody d.headings ≡ count = omega (arith, ltb-false _ count e, bad_heading_le o number nobody d.headings) in
@@ -272,7 +269,9 @@ written_is g (Call.closing room) = refl
 -- an accepted opening is held, with one member at least
 held_more : (g : Register) (c : Call) → Held g → BringsEverybody c → Held (step g c)
 unfolding step accept refusal opening_refusal
-held_more g (Call.opening o) h b = either Held (refusal g (Call.opening o)) _ g (λ e is. (b, (opening_leaves o (passed OutOfTurn (is_open g.status) _ e).1).members_some)) h
+held_more g (Call.opening o) h b =
+    either Held (refusal g (Call.opening o)) _ g
+    (λ e is. (b, (opening_leaves o (passed OutOfTurn (is_open g.status) _ e).1).in_limits.members_some)) h
 held_more g (Call.day d room) h b = either Held (refusal g (Call.day d room)) _ g (λ e. h) h
 held_more g (Call.closing room) h b = either Held (refusal g (Call.closing room)) _ g (λ e is. absurd (true≢false (sym is))) h
 

@@ -1,5 +1,5 @@
-pub mod Openings
-pub mod Present
+pub mod Row10
+pub mod AcceptedDays
 pub mod Presence
 pub mod Before
 pub mod AsBefore

@@ -36,9 +36,9 @@ use Rattle.demand3.proofs.EveryList.{last_agrees}
 use Rattle.fund.proofs.Dailies.{five_wide}
 use Rattle.answers.proofs.RefusalRows.{is_clear, is_told}
 use Rattle.as_printed.proofs.DaySums.{stretch_is}
-use Rattle.presence.specs.Presence.{GoodDays, days_present, charge_by_days_present, FirstBad, Presence}
-use Rattle.presence.proofs.Openings.{there, there_if, lists_long, row_1_else, refused_by_10, opens, named, reported_by_10}
-use Rattle.presence.proofs.Present.{nobody_there, loss_none, share_none, five_of_none, day_has}
+use Rattle.presence.specs.Presence.{GoodPresence, days_present, charge_by_days_present, FirstBad, Presence}
+use Rattle.presence.proofs.Row10.{present_within, present_if, lists_long, row_1_passes, refused_by_10, opens, named, reported_by_10}
+use Rattle.presence.proofs.AcceptedDays.{nobody_present, loss_none, share_none, five_of_none, day_has}
 
 -- ---- the days that a register keeps
 
@@ -155,41 +155,47 @@ answered_by_10 cs c o m holds is said =
 
 -- ---- a period
 
-abbrev HeldDays : Period → Type 0
-HeldDays p = (m : ℕ) → 1 ≤ m → m ≤ p.held.n → GoodDays (held_by p) m
+abbrev HeldPresence : Period → Type 0
+HeldPresence p = (m : ℕ) → 1 ≤ m → m ≤ p.held.n → GoodPresence (held_by p) m
 
-opened_days : (p : Period) (o : Opening) → opening_row p o ≡ clear → HeldDays (opened_period o)
-opened_days p o e m low high =
+opened_presence : (p : Period) (o : Opening) → opening_row p o ≡ clear → HeldPresence (opened_period o)
+opened_presence p o e m low high =
     let l = opening_passed p o e in
+    let r = l.in_limits in
     let i : m - 1 < o.n = omega (arith, low, high) in
-    subst (λ (o : Opening). GoodDays o m) (sym (opening_back o l.groups_long l.firsts_long l.lasts_long l.members_few))
+    subst (λ (o : Opening). GoodPresence o m) (sym (opening_back o r.groups_long r.firsts_long r.lasts_long r.members_few))
     (record { first_some = l.first_some (m - 1) i; in_order = l.in_order (m - 1) i; last_few = l.last_few (m - 1) i })
 
 -- by the last call: an accepted opening is held, and no other call changes what is
-held_days : {p : Period} → Reached p → HeldDays p
-held_days fresh = λ m low high. let no_way : ⊥ = omega (arith, low, high) in absurd no_way
-held_days (by_opening {p} {o} w m) = subst HeldDays (sym m.period) (either HeldDays (opening_row p o) (opened_period o) p (opened_days p o) (held_days w))
-held_days (by_day {p} {d} {before} w m) = subst HeldDays (sym m.period) (either HeldDays (day_row p d (length before)) (sized_period p d) p (λ e. held_days w) (held_days w))
-held_days (by_closing {p} {before} w m) = subst HeldDays (sym m.period) (either HeldDays (closing_row p (length before)) (closed_period p) p (λ e. held_days w) (held_days w))
+held_presence : {p : Period} → Reached p → HeldPresence p
+held_presence fresh = λ m low high. let no_way : ⊥ = omega (arith, low, high) in absurd no_way
+held_presence (by_opening {p} {o} w m) =
+    subst HeldPresence (sym m.period) (either HeldPresence (opening_row p o) (opened_period o) p (opened_presence p o) (held_presence w))
+held_presence (by_day {p} {d} {before} w m) =
+    let same = held_presence w in
+    subst HeldPresence (sym m.period) (either HeldPresence (day_row p d (length before)) (sized_period p d) p (λ e. same) same)
+held_presence (by_closing {p} {before} w m) =
+    let same = held_presence w in
+    subst HeldPresence (sym m.period) (either HeldPresence (closing_row p (length before)) (closed_period p) p (λ e. same) same)
 
 -- ---- the claim
 
 pub presence : Presence
 presence =
     record {
-      there = there;
-      there_if = there_if;
+      present_within = present_within;
+      present_if = present_if;
       lists_long = lists_long;
-      row_1_else = row_1_else;
+      row_1_passes = row_1_passes;
       refused_by_10 = λ g o m closed good. refused_by_10 o g closed good m;
       opens = λ g o closed good. opens o g closed good;
       reported_by_10 = λ o m rest good first short. reported_by_10 o good short m rest first;
       day_has = day_has;
-      nobody_there = nobody_there;
+      nobody_present = nobody_present;
       answered_by_10 = answered_by_10;
       day_writes = day_writes;
       closing_charges = closing_charges;
       absent_throughout = absent_throughout;
-      held_days = held_days;
+      held_presence = held_presence;
       status_counts = status_counts;
     }

@@ -12,12 +12,13 @@ use Rattle.methodology.specs.declared.Opening.{Opening}
 use Rattle.methodology.specs.declared.Heading.{Heading}
 use Rattle.methodology.specs.Account.{members, first_day, last_day, present, kind_h, DayInput, Account, accounts}
 use Rattle.methodology.specs.Member.{accounts_of, member_under, loss}
-use Rattle.methodology.specs.Day.{total, group_of, group_sum, share}
+use Rattle.methodology.specs.Day.{total, group_of, group_sum, share, five}
 use Rattle.methodology.specs.Contribution.{KeptDay, highest, counted, charge}
 use Rattle.methodology.specs.declared.Refusal.TheVariants.{BadHeading, BadPresence}
 use Rattle.methodology.specs.Refusals.{clear, is_open, n_outside, k_outside, group_outside, bad_opening, account_rows}
 use Rattle.methodology.specs.Register.{Call, Register, start, refusal, accepted, refused_at}
 use Rattle.methodology.specs.Text.{stretch, refused_line, report_of}
+use Rattle.validation.specs.Passing.{has_account, has_house, those_present}
 use Rattle.period.specs.declared.Period.{Period}
 use Rattle.period.specs.Calls.{held_by, status_of}
 use Rattle.period.specs.Follows.{Reached}
@@ -28,7 +29,7 @@ use Rattle.not_begun.specs.NotBegun.{opening_lines}
 -- ---- first and last days
 
 -- Not "A first day above the last, or either outside 1 to 31".
-pub record GoodDays (o : Opening) (m : ℕ) : Type 0 where
+pub record GoodPresence (o : Opening) (m : ℕ) : Type 0 where
   pub first_some : 1 ≤ first_day o m
   pub in_order : first_day o m ≤ last_day o m
   pub last_few : last_day o m ≤ 31
@@ -37,30 +38,20 @@ pub record GoodDays (o : Opening) (m : ℕ) : Type 0 where
 pub record FirstBad (o : Opening) (m : ℕ) : Type 0 where
   pub least : 1 ≤ m
   pub most : m ≤ o.n
-  pub bad : GoodDays o m → ⊥
-  pub good_before : (l : ℕ) → 1 ≤ l → l < m → GoodDays o l
+  pub bad : GoodPresence o m → ⊥
+  pub good_before : (l : ℕ) → 1 ≤ l → l < m → GoodPresence o l
 
 -- ---- a day
 
--- a member's account, and its house account, among a day's
-abbrev pub has_account : List Heading → (m : ℕ) → Bool
-has_account hs m = list_any (λ h. eqb h.member m) hs
-
-abbrev pub has_house : List Heading → (m : ℕ) → Bool
-has_house hs m = list_any (λ h. eqb h.member m && eqb h.kind kind_h) hs
-
--- of those members, who is present on the day
-abbrev pub those_present : Opening → (number : ℕ) → List ℕ → List ℕ
-those_present o number ms = filter (present o number) ms
-
--- Of an accepted day of these accounts, under this number: "On other days it has no accounts", nor a loss; T is over those present, and so is a
--- group's sum.
+-- Of an accepted day of these accounts, under this number: "On other days it has no accounts", nor a loss, and "Its five numbers on such a day
+-- are 0"; T is over those present, and so is a group's sum.
 pub record DayHas (o : Opening) (number : ℕ) (headings : List Heading) (accts : List Account) : Type 0 where
   pub account_where_present : (m : ℕ) → 1 ≤ m → m ≤ o.n → has_account headings m ≡ present o number m
   pub house_where_present : (m : ℕ) → 1 ≤ m → m ≤ o.n → has_house headings m ≡ present o number m
   pub somebody : list_any (present o number) (members o.n) ≡ true
   pub no_account : (m : ℕ) → present o number m ≡ false → accounts_of m accts ≡ []
   pub no_loss : (m : ℕ) → present o number m ≡ false → loss o.k accts m ≡ 0
+  pub no_figures : (m Max : ℕ) → present o number m ≡ false → five (loss o.k accts m) Max (total o accts) ≡ replicate 5 0
   pub total_of_present : total o accts ≡ Σ (those_present o number (members o.n)) (loss o.k accts)
   pub group_sum_of_present : (m j : ℕ) → group_sum o accts m j ≡ Σℤ (those_present o number (group_of o m)) (λ m'. member_under accts m' j)
 
@@ -80,17 +71,17 @@ charge_by_days_present g m =
 -- ---- Change 7
 
 pub record Presence : Type 0 where
-  -- "from its first day to its last", in plain bounds
-  pub there : (o : Opening) (number m : ℕ) → present o number m ≡ true → (first_day o m ≤ number) × (number ≤ last_day o m)
-  pub there_if : (o : Opening) (number m : ℕ) → first_day o m ≤ number → number ≤ last_day o m → present o number m ≡ true
+  -- from its first day to its last, in plain bounds
+  pub present_within : (o : Opening) (number m : ℕ) → present o number m ≡ true → (first_day o m ≤ number) × (number ≤ last_day o m)
+  pub present_if : (o : Opening) (number m : ℕ) → first_day o m ≤ number → number ≤ last_day o m → present o number m ≡ true
   -- Row 1, of the lists: "n long", and it asks no more of them.
   pub lists_long : (o : Opening) → bad_opening o ≡ false → (length o.firsts ≡ o.n) × (length o.lasts ≡ o.n)
-  pub row_1_else : (o : Opening) → n_outside o.n ≡ false → k_outside o.k ≡ false → list_any group_outside o.groups ≡ false
+  pub row_1_passes : (o : Opening) → n_outside o.n ≡ false → k_outside o.k ≡ false → list_any group_outside o.groups ≡ false
       → length o.groups ≡ o.n → length o.firsts ≡ o.n → length o.lasts ≡ o.n → bad_opening o ≡ false
   -- an opening that rows 2 and 1 let pass is refused by 10 where some member's days are bad, and else accepted
   pub refused_by_10 : (g : Register) (o : Opening) (m : ℕ) → is_open g.status ≡ false → bad_opening o ≡ false → FirstBad o m
       → refusal g (Call.opening o) ≡ Err (BadPresence m)
-  pub opens : (g : Register) (o : Opening) → is_open g.status ≡ false → bad_opening o ≡ false → ((m : ℕ) → 1 ≤ m → m ≤ o.n → GoodDays o m)
+  pub opens : (g : Register) (o : Opening) → is_open g.status ≡ false → bad_opening o ≡ false → ((m : ℕ) → 1 ≤ m → m ≤ o.n → GoodPresence o m)
       → refusal g (Call.opening o) ≡ clear
   -- the report of every text of such an opening, whatever follows its member lines: 10 "with that member's line"
   pub reported_by_10 : (o : Opening) (m : ℕ) (rest : List ℕ) → bad_opening o ≡ false → FirstBad o m
@@ -99,7 +90,7 @@ pub record Presence : Type 0 where
   -- every day that the table lets pass, whatever the register holds; and one with accounts though nobody is present
   pub day_has : (g : Register) (d : DayInput) (room : ℕ) → refusal g (Call.day d room) ≡ clear
       → DayHas g.held d.terms.number d.headings (accounts g.held.k d)
-  pub nobody_there : (o : Opening) (d : DayInput) → 1 ≤ length d.headings → list_any (present o d.terms.number) (members o.n) ≡ false
+  pub nobody_present : (o : Opening) (d : DayInput) → 1 ≤ length d.headings → list_any (present o d.terms.number) (members o.n) ≡ false
       → account_rows o d ≡ Err (BadHeading 0)
   -- Calls, in every list of which demand 3 holds; that is every list, of compiled calls too (`every_list`, `compiled_lists` in
   -- demand3/proofs/Demand3.antt). An opening is answered by 10 only "after 1", with the first such member's number.
@@ -121,5 +112,5 @@ pub record Presence : Type 0 where
       → let g = register_after start cs in
       (m : ℕ) → 1 ≤ m → m ≤ g.held.n → days_present g.held m (counted g.held g.days) ≡ [] → stretch 3 m c.after ≡ 0 ∷ 50000000 ∷ 100000000 ∷ []
   -- Every period that calls returned holds first and last days in their ranges, and is in range while it is open: row 2 goes by its own status.
-  pub held_days : {p : Period} → Reached p → (m : ℕ) → 1 ≤ m → m ≤ p.held.n → GoodDays (held_by p) m
+  pub held_presence : {p : Period} → Reached p → (m : ℕ) → 1 ≤ m → m ≤ p.held.n → GoodPresence (held_by p) m
   pub status_counts : {p : Period} → Reached p → is_open (status_of p) ≡ is_open p.status

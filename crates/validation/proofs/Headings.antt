@@ -16,12 +16,14 @@ use Rattle.methodology.specs.Account.{present, nobody, kind_h, kind_u}
 use Rattle.methodology.specs.Refusals.{passed_over, bad_heading, first_bad_heading}
 
 -- the search: one heading further, at a bad one, and at the end
-module _ (o : Opening) (number : ℕ) (hs : List Heading) (prev : Heading) (i : ℕ) (left : first_bad_heading o number nobody hs ≡ i + first_bad_heading o number prev (drop i hs)) where
+module _ (o : Opening) (number : ℕ) (hs : List Heading) (prev : Heading) (i : ℕ)
+    (left : first_bad_heading o number nobody hs ≡ i + first_bad_heading o number prev (drop i hs)) where
   pub search_more : i < length hs → bad_heading o number prev (get_or hs i nobody) ≡ false
       → first_bad_heading o number nobody hs ≡ (i + 1) + first_bad_heading o number (get_or hs i nobody) (drop (i + 1) hs)
   unfolding first_bad_heading
   search_more l e =
-      let one : first_bad_heading o number prev (drop i hs) ≡ suc (first_bad_heading o number (get_or hs i nobody) (drop (suc i) hs)) = rw (drop-cons hs i nobody l, e) in
+      let one : first_bad_heading o number prev (drop i hs) ≡ suc (first_bad_heading o number (get_or hs i nobody) (drop (suc i) hs)) =
+      rw (drop-cons hs i nobody l, e) in
       rw add-one (omega arith)
 
   pub search_stop : i < length hs → bad_heading o number prev (get_or hs i nobody) ≡ true → first_bad_heading o number nobody hs ≡ i

@@ -1,5 +1,5 @@
 pub mod Headings
-pub mod Presence
+pub mod Missing
 pub mod Amounts
 pub mod OpeningPasses
 pub mod DayPasses

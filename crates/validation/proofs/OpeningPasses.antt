@@ -15,7 +15,7 @@ use Rattle.methodology.specs.declared.Refusal.TheVariants.{BadOpening, BadPresen
 use Rattle.methodology.specs.Account.{members, first_day, last_day}
 use Rattle.methodology.specs.Refusals.{clear, group_outside, bad_opening, bad_presence, opening_rows}
 use Rattle.methodology.proofs.Passed.{passed, inside}
-use Rattle.validation.specs.Passing.{Limited, Opened}
+use Rattle.validation.specs.Passing.{InLimits, Opened}
 
 -- a search among the numbers 1 to n: the one that is found passes, and none below it does
 module _ (p : ℕ → Bool) (n : ℕ) where
@@ -31,9 +31,9 @@ module _ (p : ℕ → Bool) (n : ℕ) where
       (fails_before_first p (members n) (m - 1) 0 (omega (arith, low, below)))
 
 -- row 1
-pub limited : (o : Opening) → bad_opening o ≡ false → Limited o
+pub in_limits : (o : Opening) → bad_opening o ≡ false → InLimits o
 unfolding bad_opening
-limited o e =
+in_limits o e =
     let long : length o.groups ≡ o.n = grind (arith, nat_tests) in
     let groups : list_any group_outside o.groups ≡ false = grind (arith, nat_tests) in
     record {
@@ -55,21 +55,13 @@ opening_leaves o e =
     let bad10 = position_or_len bad (members o.n) in
     let (e1, r) = passed BadOpening (bad_opening o) _ e in
     let (e10, _) = passed (BadPresence (bad10 + 1)) (ltb bad10 o.n) clear r in
-    let l = limited o e1 in
     let all : bad10 ≡ o.n = grind (arith, nat_tests, prefix_len-le-length (λ m. not (bad m)) (members o.n), length-range_with_len 1 o.n) in
     let good_at : (i : ℕ) → i < o.n → bad_presence (get_or o.firsts i 0) (get_or o.lasts i 0) ≡ false =
     λ i h.
     let place : i + 1 - 1 ≡ i = omega arith in
     rw place at (below_fails bad o.n (i + 1) (omega arith) (omega (arith, h)) (omega (arith, h, all))) in
     record {
-      members_some = l.members_some;
-      members_few = l.members_few;
-      scenarios_some = l.scenarios_some;
-      scenarios_few = l.scenarios_few;
-      groups_long = l.groups_long;
-      group_few = l.group_few;
-      firsts_long = l.firsts_long;
-      lasts_long = l.lasts_long;
+      in_limits = in_limits o e1;
       first_some = λ i h. let b = good_at i h in grind (arith, nat_tests);
       in_order = λ i h. let b = good_at i h in grind (arith, nat_tests);
       last_few = λ i h. let b = good_at i h in grind (arith, nat_tests);

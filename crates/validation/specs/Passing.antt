@@ -1,13 +1,14 @@
 -- What the refusal table leaves of an opening and of a day, in facts instead of tests.
-use Rattle.std.specs.Prelude.{◌≡◌, false, ℕ, ◌+◌, ◌*◌, ◌≤◌, ◌<◌, length, get_or}
-use Rattle.std.specs.List.{position_or_len}
+use Rattle.std.specs.Prelude.{Bool, ◌&&◌, List, ◌≡◌, false, ℕ, ◌+◌, ◌*◌, ◌≤◌, ◌<◌, eqb, length, get_or}
+use Rattle.std.specs.List.{filter, list_any, position_or_len}
 use Rattle.methodology.specs.declared.Opening.{Opening}
-use Rattle.methodology.specs.Account.{DayInput, accounts, nobody}
+use Rattle.methodology.specs.declared.Heading.{Heading}
+use Rattle.methodology.specs.Account.{present, DayInput, accounts, nobody, kind_h}
 use Rattle.methodology.specs.Refusals.{bad_input, bad_day_number, first_bad_heading, last_missing, bad_amount}
 use Rattle.validation.specs.Slices.{Within, Rising}
 
 -- row 1: an opening within its limits, and its lists n long
-pub record Limited (o : Opening) : Type 0 where
+pub record InLimits (o : Opening) : Type 0 where
   pub members_some : 1 ≤ o.n
   pub members_few : o.n ≤ 32
   pub scenarios_some : 1 ≤ o.k
@@ -17,19 +18,23 @@ pub record Limited (o : Opening) : Type 0 where
   pub firsts_long : length o.firsts ≡ o.n
   pub lasts_long : length o.lasts ≡ o.n
 
--- rows 1 and 10: its first and last days in order, too
+-- rows 1 and 10: and its first and last days in order
 pub record Opened (o : Opening) : Type 0 where
-  pub members_some : 1 ≤ o.n
-  pub members_few : o.n ≤ 32
-  pub scenarios_some : 1 ≤ o.k
-  pub scenarios_few : o.k ≤ 16
-  pub groups_long : length o.groups ≡ o.n
-  pub group_few : (i : ℕ) → i < o.n → get_or o.groups i 0 ≤ 32
-  pub firsts_long : length o.firsts ≡ o.n
-  pub lasts_long : length o.lasts ≡ o.n
+  pub in_limits : InLimits o
   pub first_some : (i : ℕ) → i < o.n → 1 ≤ get_or o.firsts i 0
   pub in_order : (i : ℕ) → i < o.n → get_or o.firsts i 0 ≤ get_or o.lasts i 0
   pub last_few : (i : ℕ) → i < o.n → get_or o.lasts i 0 ≤ 31
+
+-- a member's account, and its house account, among a day's
+abbrev pub has_account : List Heading → (m : ℕ) → Bool
+has_account hs m = list_any (λ h. eqb h.member m) hs
+
+abbrev pub has_house : List Heading → (m : ℕ) → Bool
+has_house hs m = list_any (λ h. eqb h.member m && eqb h.kind kind_h) hs
+
+-- of those members, who is present on the day with this number
+abbrev pub those_present : Opening → (number : ℕ) → List ℕ → List ℕ
+those_present o number ms = filter (present o number) ms
 
 -- row 4 of what a day brings: lengths that agree
 pub record Sized (o : Opening) (d : DayInput) : Type 0 where

@@ -1,10 +1,10 @@
 -- How the program holds what calls bring: an opening, and a day's slices with what rows 4 to 6 of the refusal table leave of them.
-use Rattle.std.specs.Prelude.{◌≡◌, List, [], map, ℕ, suc, ◌+◌, ◌*◌, ◌≤◌, ◌<◌, ℤ, pos, nat_abs, length, get_or, take}
-use Rattle.std.specs.List.{range_with_len}
+use Rattle.std.specs.Prelude.{◌≡◌, List, [], map, ℕ, suc, ◌+◌, ◌-◌, ◌*◌, ◌≤◌, ◌<◌, ℤ, pos, nat_abs, length, get_or, take}
+use Rattle.std.specs.List.{range_with_len, position_or_len}
 use Rattle.methodology.specs.declared.Opening.{Opening}
 use Rattle.methodology.specs.declared.Heading.{Heading}
-use Rattle.methodology.specs.Account.{with_each_list, Account, nobody, kind_u}
-use Rattle.methodology.specs.Refusals.{limit}
+use Rattle.methodology.specs.Account.{with_each_list, members, Account, nobody, kind_u}
+use Rattle.methodology.specs.Refusals.{limit, bad_presence}
 
 -- An opening as a period keeps it, with each of its lists in 32 places, and back.
 abbrev pub in_places : Opening → Opening
@@ -12,6 +12,10 @@ in_places o = with_each_list o (λ l. map (λ i. get_or l i 0) (range_with_len 0
 
 abbrev pub listed : Opening → Opening
 listed o = with_each_list o (take o.n)
+
+-- row 10 by its lists: the index of the first member whose days are bad, or how many members there are
+abbrev pub first_bad : (firsts lasts : List ℕ) → ℕ
+first_bad firsts lasts = position_or_len (λ m. bad_presence (get_or firsts (m - 1) 0) (get_or lasts (m - 1) 0)) (members (length firsts))
 
 -- an account of nobody, for an index past the last
 abbrev pub no_account : Account

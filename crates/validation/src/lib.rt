@@ -104,7 +104,7 @@ fn bad_after(opening: &Opening, number: u64, prev: Heading, heading: Heading) ->
     }
 }
 
-// Whether a member that is present on the day stands between two others, of which the second may be the one after the last.
+// Whether a member that is present on the day has a number between these two: 0 stands before a day's first account, n + 1 after its last.
 fn passed_over(opening: &Opening, number: u64, from: u64, to: u64) -> bool
     requires { (from < to) × (to ≤ opening.now.n + 1) × (opening.now.n ≤ 32) }
     ensures { result ≡ passed_over (listed opening.now) number from to }

@@ -1,10 +1,10 @@
 // Rows 1, 10, 3 and 4 of the refusal table: the limits of what an opening brings, of a day's number, and of a day's lengths.
-ghost use Rattle.std.specs.Prelude.{◌≡◌, ◌+◌, ◌-◌, ◌≤◌, ltb, length, get_or};
+ghost use Rattle.std.specs.Prelude.{◌≡◌, ◌+◌, ◌≤◌, ltb, length};
 ghost use Rattle.std.specs.Bool.{then_some};
-ghost use Rattle.std.specs.List.{list_any, position_or_len};
-ghost use Rattle.methodology.specs.Account.{members};
+ghost use Rattle.std.specs.List.{list_any};
 ghost use Rattle.methodology.specs.Brought.{day_brought};
 ghost use Rattle.methodology.specs.Refusals.{outside as outside_limits, n_outside, k_outside, group_outside, bad_opening, bad_presence, opening_rows, bad_day_number, count_outside, bad_input};
+ghost use Rattle.validation.specs.Slices.{first_bad};
 
 use methodology::{Day, Opening, Refusal};
 
@@ -68,7 +68,7 @@ fn bad_presence(first: u64, last: u64) -> bool
 // The number of the first member that meets it, if one does. Each has a first and a last day.
 fn first_bad_presence(firsts: &[u64], lasts: &[u64]) -> Option<u64>
     requires { length lasts.now ≡ length firsts.now }
-    ensures { let bad10 = position_or_len (λ m. bad_presence (get_or firsts.now (m - 1) 0) (get_or lasts.now (m - 1) 0)) (members (length firsts.now)) in result ≡ then_some (ltb bad10 (length firsts.now)) (bad10 + 1) }
+    ensures { let bad10 = first_bad firsts.now lasts.now in result ≡ then_some (ltb bad10 (length firsts.now)) (bad10 + 1) }
 {
     for i in 0..firsts.len() {
         if bad_presence(firsts[i], lasts[i]) {

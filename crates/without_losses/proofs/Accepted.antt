@@ -29,9 +29,9 @@ use Rattle.methodology.specs.Register.{Call, Register, last_number, refusal}
 use Rattle.methodology.proofs.RowLimits.{accounts_long}
 use Rattle.exposure.proofs.Bounds.{Limited, total_bound}
 use Rattle.validation.specs.Slices.{no_account}
-use Rattle.validation.specs.Passing.{Opened, Passes}
+use Rattle.validation.specs.Passing.{Opened, Passes, those_present}
 use Rattle.validation.proofs.Amounts.{accounts_at}
-use Rattle.validation.proofs.Presence.{over_absent}
+use Rattle.validation.proofs.Missing.{over_absent}
 use Rattle.validation.proofs.OpeningPasses.{opening_leaves}
 use Rattle.without_losses.specs.PutIn.{AcceptedWithout}
 
@@ -52,17 +52,13 @@ house m = record { member = m; number = 0; kind = kind_h }
 abbrev pub quiet_account : (k m : ℕ) → Account
 quiet_account k m = record { heading = house m; npvs = replicate (k + 1) (pos 0); margin = 0; extra = 0 }
 
--- who is present on a day
-abbrev pub present_on : Opening → (number : ℕ) → List ℕ
-present_on o number = filter (present o number) (members o.n)
-
--- the day on which each of them has this account alone
+-- the day on which each member that is present has this account alone
 abbrev pub quiet_day : Opening → (number : ℕ) → DayInput
 quiet_day o number =
-    let count = length (present_on o number) in
+    let count = length (those_present o number (members o.n)) in
     record {
       terms = record { number = number };
-      headings = map house (present_on o number);
+      headings = map house (those_present o number (members o.n));
       npvs = replicate (count * (o.k + 1)) (pos 0);
       margins = replicate count 0;
       extras = replicate count 0;
@@ -73,7 +69,7 @@ module _ (o : Opening) (number : ℕ) where
   day = quiet_day o number
 
   abbrev those : List ℕ
-  those = present_on o number
+  those = those_present o number (members o.n)
 
   count : length day.headings ≡ length those
   count = length-map those house
@@ -115,7 +111,8 @@ good_headings : (o : Opening) (number a c : ℕ) (prev : Heading) → prev.membe
 unfolding first_bad_heading
 good_headings o number a zero prev low high absent = refl
 good_headings o number a (suc c) prev low high absent =
-    by (present o number a) refl (good_headings o number (a + 1) c (house a) (omega arith) (omega arith) (λ m h k. absurd (let no_way : ⊥ = omega (arith, h, k) in no_way)))
+    by (present o number a) refl
+    (good_headings o number (a + 1) c (house a) (omega arith) (omega arith) (λ m h k. let no_way : ⊥ = omega (arith, h, k) in absurd no_way))
     (λ e. good_headings o number (a + 1) c prev (omega arith) (omega arith) (λ m h k. with_a e m h k (eqb m a) refl))
   where
     after : List ℕ
@@ -139,16 +136,16 @@ good_amounts k m =
     rw (none_any npv_outside npvs (by_index (λ z. npv_outside z ≡ false) npvs (pos 0) (λ i l. rw (replicate_at (k + 1) i (pos 0)) refl))) refl
 
 -- each member that is present has an account
-none_missing : (o : Opening) (number : ℕ) → last_missing o number (map house (present_on o number)) ≡ false
+none_missing : (o : Opening) (number : ℕ) → last_missing o number (map house (those_present o number (members o.n))) ≡ false
 unfolding last_missing
 none_missing o number = none_any _ (members o.n) (λ m i. by m i (present o number m) refl)
   where
     by : (m : ℕ) → m ∈ members o.n → (t : Bool) → present o number m ≡ t
-        → (t && not (list_any (λ (h : Heading). eqb h.member m) (map house (present_on o number)))) ≡ false
+        → (t && not (list_any (λ (h : Heading). eqb h.member m) (map house (those_present o number (members o.n))))) ≡ false
     by m i false e = refl
     by m i true e =
         rw (
-          any_map (λ (h : Heading). eqb h.member m) house (present_on o number),
+          any_map (λ (h : Heading). eqb h.member m) house (those_present o number (members o.n)),
           some_any (λ (x : ℕ). eqb x m) (keep_mem (present o number) i e) (eq-eqb m m refl),
         )
         refl
@@ -167,16 +164,19 @@ unfolding bad_day_number
 quiet_passes o number last m e low one up there =
     let d = quiet_day o number in
     let p = present o number in
-    let those = present_on o number in
+    let those = those_present o number (members o.n) in
     let l = opening_leaves o e in
     let some : 1 ≤ length those = mem_some (keep_mem p (range_mem 1 o.n one (omega (arith, up))) there) in
-    let few : length those ≤ 32 = omega (arith, length-filter p (members o.n), count_by-le-length p (members o.n), length-range_with_len 1 o.n, l.members_few) in
+    let few : length those ≤ 32 =
+    omega (arith, length-filter p (members o.n), count_by-le-length p (members o.n), length-range_with_len 1 o.n, l.in_limits.members_few) in
     let high : number ≤ 31 = not_after o number m l one up there in
     let all = accounts o.k d in
     record {
       input = rw (count o number, length-replicate (length those * (o.k + 1)) (pos 0), length-replicate {A = ℕ} (length those) 0) (grind (arith, nat_tests));
       number = grind (arith, nat_tests);
-      headings = good_headings o number 1 o.n nobody (omega arith) (omega arith) (λ m h k. absurd (let no_way : ⊥ = omega (arith, h, k) in no_way)) ∙ sym (count o number);
+      headings =
+          good_headings o number 1 o.n nobody (omega arith) (omega arith) (λ m h k. let no_way : ⊥ = omega (arith, h, k) in absurd no_way)
+          ∙ sym (count o number);
       complete = none_missing o number;
       amounts =
           position_or_len_is bad_amount all (length all) no_account (omega arith)

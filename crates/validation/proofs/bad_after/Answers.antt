@@ -2,7 +2,7 @@
 use native.Mathlib.Omega.{arith}
 use Rattle.std.proofs.lemmas.Bool.Decides.{nat_tests}
 use Rattle.validation.specs.Slices.{listed}
-use Rattle.validation.proofs.Presence.{over_none}
+use Rattle.validation.proofs.Missing.{over_none}
 use Rattle.validation.proofs.bad_after.Goals as goal
 
 pub returns-in-Equal : goal.returns-in-Equal

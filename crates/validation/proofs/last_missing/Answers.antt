@@ -2,7 +2,7 @@
 use Rattle.std.proofs.Common.{◌-◌, length, sym, ◌∙◌, arith}
 use Rattle.validation.specs.Slices.{listed}
 use Rattle.validation.proofs.Headings.{all_fine}
-use Rattle.validation.proofs.Presence.{missing_is_after}
+use Rattle.validation.proofs.Missing.{missing_is_after}
 use Rattle.validation.proofs.last_missing.Goals as goal
 
 pub passed_over-requires : goal.passed_over-requires
@@ -14,5 +14,6 @@ passed_over-requires c =
 pub returns : goal.returns
 returns c =
     let r = c.requires in
-    let after = missing_is_after (listed c.args.opening.now) c.args.number c.args.headings.now r.none_bad (length c.args.headings.now - 1) (omega (arith, r.some)) in
+    let headings = c.args.headings.now in
+    let after = missing_is_after (listed c.args.opening.now) c.args.number headings r.none_bad (length headings - 1) (omega (arith, r.some)) in
     c.passed_over.ensures ∙ sym after

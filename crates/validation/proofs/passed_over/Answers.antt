@@ -3,7 +3,7 @@ use mathlib.Core.Path.{sym, ◌∙◌}
 use Prim.Native.Nat.{◌-◌}
 use native.Mathlib.Omega.{arith}
 use Rattle.validation.specs.Slices.{listed}
-use Rattle.validation.proofs.Presence.{over_none, over_here, over_more}
+use Rattle.validation.proofs.Missing.{over_none, over_here, over_more}
 use Rattle.validation.proofs.passed_over.Goals as goal
 
 pub returns-then-present : goal.returns-then-present

@@ -15,13 +15,13 @@ returns-in_err-opening_rows c =
     rw (met.1, met.2) (row_met _ _ (sym c.if-is_open.ensures) _ (sym c.in_err-opening_rows.ensures))
 
 pub places-requires : goal.places-requires
-places-requires c = let o = opening_leaves _ (sym c.in_ok-opening_rows.ensures) in omega (arith, o.groups_long, o.members_few)
+places-requires c = let o = (opening_leaves _ (sym c.in_ok-opening_rows.ensures)).in_limits in omega (arith, o.groups_long, o.members_few)
 
 pub places-requires-2 : goal.places-requires-2
-places-requires-2 c = let o = opening_leaves _ (sym c.in_ok-opening_rows.ensures) in omega (arith, o.firsts_long, o.members_few)
+places-requires-2 c = let o = (opening_leaves _ (sym c.in_ok-opening_rows.ensures)).in_limits in omega (arith, o.firsts_long, o.members_few)
 
 pub places-requires-3 : goal.places-requires-3
-places-requires-3 c = let o = opening_leaves _ (sym c.in_ok-opening_rows.ensures) in omega (arith, o.lasts_long, o.members_few)
+places-requires-3 c = let o = (opening_leaves _ (sym c.in_ok-opening_rows.ensures)).in_limits in omega (arith, o.lasts_long, o.members_few)
 
 pub returns : goal.returns
 returns c =

@@ -34,7 +34,9 @@ module _ (firsts lasts : List ℕ) (i : ℕ) where
   found l e s = position_or_len_is bad all i 0 s.high s.fails (λ h. bad_here l e)
 
   at_end : length firsts ≤ i → NoneBefore bad all 0 i → position_or_len bad all ≡ i
-  at_end l s = position_or_len_is bad all i 0 s.high s.fails (λ h. absurd (let no_way : ⊥ = omega (arith, h, l, length-range_with_len 1 (length firsts)) in no_way))
+  at_end l s =
+      position_or_len_is bad all i 0 s.high s.fails
+      (λ h. let no_way : ⊥ = omega (arith, h, l, length-range_with_len 1 (length firsts)) in absurd no_way)
 
 pub loop-i-init : goal.loop-i-init
 loop-i-init c = none_before _ _ _

@@ -1,6 +1,6 @@
 -- An accepted day, by the rows that let it pass: who is present has a house account, and who is absent no account. So an absent member's EULs
 -- are those of no account, 0 under every scenario and its own, and it is in no sum.
-use mathlib.Core.Path.{◌≡◌, refl, ◌∙◌}
+use mathlib.Core.Path.{◌≡◌, refl, ap, ◌∙◌}
 use mathlib.Core.Bool.{Bool, true, false, not}
 use mathlib.Core.List.{List, [], ◌∷◌}
 use Prim.Native.Nat.{ℕ, ◌*◌, ◌≤◌, ◌<◌}
@@ -29,11 +29,11 @@ use Rattle.methodology.proofs.Passed.{passed, inside}
 use Rattle.methodology.proofs.RowLimits.{accounts_long}
 use Rattle.fund.proofs.Dailies.{five_none, five_some}
 use Rattle.validation.specs.Slices.{no_account}
-use Rattle.validation.specs.Passing.{Passes}
+use Rattle.validation.specs.Passing.{Passes, those_present}
 use Rattle.validation.proofs.Amounts.{accounts_at}
 use Rattle.validation.proofs.DayPasses.{passes, sized}
 use Rattle.validation.proofs.Headings.{all_fine}
-use Rattle.validation.proofs.Presence.{no_account_if, account_where_present, house_where_present}
+use Rattle.validation.proofs.Missing.{no_account_if, account_where_present, house_where_present}
 use Rattle.presence.specs.Presence.{DayHas}
 
 -- ---- of no account
@@ -112,10 +112,15 @@ module _ (o : Opening) (last : ℕ) (d : DayInput) (p : Passes o last d) where
         somebody = somebody;
         no_account = no_account_lem;
         no_loss = λ m absent. loss_none o.k accts m (no_account_lem m absent);
+        no_figures =
+            λ m Max absent.
+            ap (λ (e : ℕ). five e Max (total o accts)) (loss_none o.k accts m (no_account_lem m absent)) ∙ five_of_none Max (total o accts);
         total_of_present =
             Σ-left_out (present o number) (members o.n) (loss o.k accts) (λ m i absent. loss_none o.k accts m (no_account_lem m absent));
         group_sum_of_present =
-            λ m j. Σℤ-left_out (present o number) (group_of o m) (λ m'. member_under accts m' j) (λ m' i absent. under_none accts m' j (no_account_lem m' absent));
+            λ m j.
+            Σℤ-left_out (present o number) (group_of o m) (λ m'. member_under accts m' j)
+            (λ m' i absent. under_none accts m' j (no_account_lem m' absent));
       }
 
 pub day_has : (g : Register) (d : DayInput) (room : ℕ) → refusal g (Call.day d room) ≡ clear
@@ -134,12 +139,13 @@ first_bad o number h e = by (member_outside o.n h) refl
         let (low, high) = inside 1 o.n h.member q in
         rw (q, any_false (present o number) e (range_mem 1 o.n low (omega (arith, high)))) refl
 
-none_good : (o : Opening) (number : ℕ) (hs : List Heading) → 1 ≤ length hs → list_any (present o number) (members o.n) ≡ false → first_bad_heading o number nobody hs ≡ 0
+none_good : (o : Opening) (number : ℕ) (hs : List Heading) → 1 ≤ length hs → list_any (present o number) (members o.n) ≡ false
+    → first_bad_heading o number nobody hs ≡ 0
 unfolding first_bad_heading
 none_good o number [] some e = let no_way : ⊥ = omega (arith, some) in absurd no_way
 none_good o number (h ∷ hs) some e = rw (first_bad o number h e) refl
 
-pub nobody_there : (o : Opening) (d : DayInput) → 1 ≤ length d.headings → list_any (present o d.terms.number) (members o.n) ≡ false
+pub nobody_present : (o : Opening) (d : DayInput) → 1 ≤ length d.headings → list_any (present o d.terms.number) (members o.n) ≡ false
     → account_rows o d ≡ Err (BadHeading 0)
 unfolding account_rows row◌when◌else◌
-nobody_there o d some e = rw (none_good o d.terms.number d.headings some e, lt-ltb 0 (length d.headings) some) refl
+nobody_present o d some e = rw (none_good o d.terms.number d.headings some e, lt-ltb 0 (length d.headings) some) refl

@@ -15,6 +15,7 @@ use Rattle.methodology.specs.declared.Opening.{Opening}
 use Rattle.methodology.specs.declared.Heading.{Heading}
 use Rattle.methodology.specs.Account.{members, present, nobody, kind_h}
 use Rattle.methodology.specs.Refusals.{passed_over, first_bad_heading, last_missing}
+use Rattle.validation.specs.Passing.{has_account, has_house}
 use Rattle.validation.proofs.Headings.{Fine, all_fine}
 
 module _ (o : Opening) (number : ℕ) where
@@ -45,12 +46,6 @@ module _ (o : Opening) (number : ℕ) where
     where
       at_each : (x : ℕ) → Bool → (ltb (m - 1) x && ltb x to && present o number x) ≡ (ltb (m + 1 - 1) x && ltb x to && present o number x)
       at_each x t = grind (arith, nat_tests)
-
-abbrev has_account : List Heading → (m : ℕ) → Bool
-has_account hs m = list_any (λ (h : Heading). eqb h.member m) hs
-
-abbrev has_house : List Heading → (m : ℕ) → Bool
-has_house hs m = list_any (λ (h : Heading). eqb h.member m && eqb h.kind kind_h) hs
 
 -- a house account is an account
 with_house : (hs : List Heading) (m : ℕ) → has_account hs m ≡ false → has_house hs m ≡ false
@@ -90,7 +85,8 @@ module _ (o : Opening) (number : ℕ) (hs : List Heading) (good : first_bad_head
           some_any _ (mem_at hs nobody here) (rw (r, (fine_at i here).house first) refl)
       by earlier true false q r =
           let before : ltb m next ≡ true = lt-ltb m next (omega (arith, h, eqb-false next m r)) in
-          absurd (true≢false (sym (over_at o number prev m next (range_mem 1 o.n some (omega (arith, few))) q before there) ∙ (fine_at i (omega (arith, l))).none_over))
+          let over = over_at o number prev m next (range_mem 1 o.n some (omega (arith, few))) q before there in
+          absurd (true≢false (sym over ∙ (fine_at i (omega (arith, l))).none_over))
 
   -- no account is of a member after the last one's
   pub below_last : (last : ℕ) → last + 1 ≡ length hs → (m : ℕ) → (get_or hs last nobody).member < m → has_account hs m ≡ false
@@ -99,7 +95,8 @@ module _ (o : Opening) (number : ℕ) (hs : List Heading) (good : first_bad_head
       let climbs = λ (i : ℕ) (h : i < length hs).
       by_steps (λ j. (get_or hs i nobody).member ≤ (get_or hs j nobody).member) i last (omega (arith, e)) (omega arith)
       (λ j h k s. omega (arith, s, (fine_at (suc j) (omega (arith, e, k))).rising)) in
-      none_any _ hs (by_index (λ (h : Heading). eqb h.member m ≡ false) hs nobody (λ i h. ne_eqb _ m (λ q. absurd (let no_way : ⊥ = omega (arith, climbs i h, l, q) in no_way))))
+      none_any _ hs
+      (by_index (λ (h : Heading). eqb h.member m ≡ false) hs nobody (λ i h. ne_eqb _ m (λ q. let no_way : ⊥ = omega (arith, climbs i h, l, q) in no_way)))
 
   -- so one that has none comes after the last account's
   pub missing_is_after : (last : ℕ) → last + 1 ≡ length hs → last_missing o number hs ≡ passed_over o number (get_or hs last nobody).member (o.n + 1)
