@@ -29,7 +29,7 @@ use Rattle.methodology.proofs.Passed.{passed, inside}
 use Rattle.methodology.proofs.RowLimits.{accounts_long}
 use Rattle.fund.proofs.Dailies.{five_none, five_some}
 use Rattle.validation.specs.Slices.{no_account}
-use Rattle.validation.specs.Passing.{Passes, those_present}
+use Rattle.validation.specs.Passing.{Passes}
 use Rattle.validation.proofs.Amounts.{accounts_at}
 use Rattle.validation.proofs.DayPasses.{passes, sized}
 use Rattle.validation.proofs.Headings.{all_fine}

@@ -19,8 +19,8 @@ use Rattle.methodology.specs.declared.Refusal.TheVariants.{OutOfTurn, BadDayNumb
 use Rattle.methodology.specs.declared.Opening.{Opening}
 use Rattle.methodology.specs.declared.Heading.{Heading}
 use Rattle.methodology.specs.declared.Status.{Status}
-use Rattle.methodology.specs.Account.{members, first_day, last_day, present, DayInput, accounts, nobody}
-use Rattle.methodology.specs.Refusals.{Verdict, clear, row◌when◌else◌, is_open, bad_opening, bad_presence, opening_rows, opening_refusal, bad_day_number, member_outside, passed_over, bad_heading, first_bad_heading, last_missing, bad_amount, bad_input, bad_output, account_rows, day_rows, day_refusal, closing_refusal}
+use Rattle.methodology.specs.Account.{first_day, last_day, present, DayInput, accounts, nobody}
+use Rattle.methodology.specs.Refusals.{Verdict, clear, row◌when◌else◌, is_open, bad_opening, opening_rows, opening_refusal, bad_day_number, member_outside, passed_over, bad_heading, first_bad_heading, last_missing, bad_amount, bad_input, bad_output, account_rows, day_rows, day_refusal, closing_refusal}
 use Rattle.methodology.specs.Day.{total, group_of, group_sum, own_max_eul, dailies}
 use Rattle.methodology.specs.Contribution.{reported_max_eul, highest, counted, sum_of_shares, raw, contributions, total_funded}
 use Rattle.methodology.specs.Register.{Call, Register, start, last_number, refusal, accept, if_accepted, step, returned, written, answer_by, answer, buffer}

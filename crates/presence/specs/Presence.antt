@@ -4,13 +4,13 @@
 -- (`present` in Account.antt). `Presence` states what follows, of openings, days, closings and reports. That an absent member is no fault, so
 -- that in every open period a day is accepted wherever somebody is present, says `there_is_one` in WithoutLosses.antt; that with everybody
 -- present all is as before, `AsBefore` in AsBefore.antt, among the proofs.
-use Rattle.std.specs.Prelude.{Bool, true, false, ◌&&◌, ◌≡◌, ℕ, ◌+◌, ◌^◌, ◌≤◌, ◌<◌, eqb, length, get_or, replicate, Err}
+use Rattle.std.specs.Prelude.{true, false, ◌≡◌, ℕ, ◌+◌, ◌^◌, ◌≤◌, ◌<◌, length, get_or, replicate, Err}
 use mathlib.Core.List.{List, [], ◌∷◌, ◌++◌}
 use Rattle.std.specs.List.{filter, list_any}
 use Rattle.numbers.specs.Sums.{Σ, Σℤ}
 use Rattle.methodology.specs.declared.Opening.{Opening}
 use Rattle.methodology.specs.declared.Heading.{Heading}
-use Rattle.methodology.specs.Account.{members, first_day, last_day, present, kind_h, DayInput, Account, accounts}
+use Rattle.methodology.specs.Account.{members, first_day, last_day, present, DayInput, Account, accounts}
 use Rattle.methodology.specs.Member.{accounts_of, member_under, loss}
 use Rattle.methodology.specs.Day.{total, group_of, group_sum, share, five}
 use Rattle.methodology.specs.Contribution.{KeptDay, highest, counted, charge}

@@ -8,12 +8,11 @@ use native.Mathlib.Omega.{arith}
 use lib.Dec.{ltb, eqb}
 use lib.ListN.{length, get_or}
 use borrow.Author.Tests.{ltb-false, lt-ltb, ltb-true, eqb-true, eqb-false, ne_eqb}
-use Rattle.std.specs.List.{list_any}
 use Rattle.std.proofs.lemmas.Bool.Decides.{nat_tests}
 use Rattle.numbers.proofs.Lists.{◌∈◌, mem_at, any_false, by_index, by_steps, mem_range, range_mem, any_eq, some_any, none_any}
 use Rattle.methodology.specs.declared.Opening.{Opening}
 use Rattle.methodology.specs.declared.Heading.{Heading}
-use Rattle.methodology.specs.Account.{members, present, nobody, kind_h}
+use Rattle.methodology.specs.Account.{members, present, nobody}
 use Rattle.methodology.specs.Refusals.{passed_over, first_bad_heading, last_missing}
 use Rattle.validation.specs.Passing.{has_account, has_house}
 use Rattle.validation.proofs.Headings.{Fine, all_fine}
