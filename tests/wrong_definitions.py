@@ -194,7 +194,6 @@ Refusals.last_missing | present o number m && not | not
 Refusals.last_missing | present o number m && | leb (first_day o m) number &&
 Refusals.last_missing | present o number m && | leb number (last_day o m) &&
 Refusals.last_missing | (members o.n) | (drop (o.n - 1) (members o.n))
-Refusals.last_missing | present o number m && | not (list_any (present o number) (drop m (members o.n))) && present o number m &&
 Account.present | leb (first_day o m) number && leb number (last_day o m) | leb (first_day o m) number
 Account.present | leb (first_day o m) number && leb number (last_day o m) | leb number (last_day o m)
 Account.present | leb (first_day o m) number && leb number (last_day o m) | cond (eqb (first_day o m) (last_day o m)) (leb (first_day o m) number) (leb (first_day o m) number && leb number (last_day o m))

@@ -12,10 +12,6 @@ use Rattle.methodology.specs.declared.Heading.{Heading}
 -- to 16). Each member has a group number, 0 to 32." By Change 7 it "now takes a first and a last day for each member". In a definition its
 -- groups, first days and last days are lists of any length, as a call brings them.
 
--- the same opening, with what f makes of each of its lists
-abbrev pub with_each_list : Opening → (f : List ℕ → List ℕ) → Opening
-with_each_list o f = record { n = o.n; k = o.k; groups = f o.groups; firsts = f o.firsts; lasts = f o.lasts }
-
 -- none: what is held before the first
 abbrev pub no_opening : Opening
 no_opening = record { n = 0; k = 0; groups = []; firsts = []; lasts = [] }

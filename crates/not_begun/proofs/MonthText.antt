@@ -14,13 +14,14 @@ use lib.Seq.{take-suc, take_all, length-take-le}
 use borrow.Author.Tests.{eq-eqb, ne_eqb, le-ltb}
 use Rattle.numbers.proofs.Lists.{none_any, every_mem, every_append, every_flat_map, every_weaken}
 use Rattle.methodology.specs.declared.Opening.{Opening}
-use Rattle.methodology.specs.Account.{with_each_list, members, first_day, last_day}
+use Rattle.methodology.specs.Account.{members, first_day, last_day}
 use Rattle.methodology.specs.Day.{group_number}
 use Rattle.methodology.specs.Refusals.{clear, row◌when◌else◌, opening_rows, opening_refusal}
 use Rattle.methodology.specs.Register.{Call, Register, start, refusal, step}
 use Rattle.methodology.specs.Text.{tab, LF, bytes, same, split, decimal, number_of, every_field, also, bad_bytes, numbers_after, printed, Expected, period, member, day, after_end, read_period, Read, goes_on, opened, with_member, read_member, read_line, followed_by, report_from, report_of}
 use Rattle.methodology.proofs.Splits.{split_first}
 use Rattle.methodology.proofs.Short.{printed_short}
+use Rattle.validation.specs.Slices.{with_each_list}
 use Rattle.validation.specs.Passing.{InLimits}
 use Rattle.validation.proofs.OpeningPasses.{opening_leaves}
 use Rattle.as_printed.proofs.ReadBack.{Digit, all_digits, reads_back_as_text}

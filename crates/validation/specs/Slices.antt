@@ -3,8 +3,12 @@ use Rattle.std.specs.Prelude.{◌≡◌, List, [], map, ℕ, suc, ◌+◌, ◌-�
 use Rattle.std.specs.List.{range_with_len, position_or_len}
 use Rattle.methodology.specs.declared.Opening.{Opening}
 use Rattle.methodology.specs.declared.Heading.{Heading}
-use Rattle.methodology.specs.Account.{with_each_list, members, Account, nobody, kind_u}
+use Rattle.methodology.specs.Account.{members, Account, nobody, kind_u}
 use Rattle.methodology.specs.Refusals.{limit, bad_presence}
+
+-- the same opening, with what f makes of each of its lists
+abbrev pub with_each_list : Opening → (f : List ℕ → List ℕ) → Opening
+with_each_list o f = record { n = o.n; k = o.k; groups = f o.groups; firsts = f o.firsts; lasts = f o.lasts }
 
 -- An opening as a period keeps it, with each of its lists in 32 places, and back.
 abbrev pub in_places : Opening → Opening
