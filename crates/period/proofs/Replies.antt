@@ -20,7 +20,11 @@ use Rattle.validation.specs.Slices.{in_places}
 use Rattle.period.specs.declared.Period.{Period}
 use Rattle.period.specs.Calls.{without_days, held_by, status_of, opening_row, OpeningMeets, output_row, accounts_brought, total_by, day_row, reported_by, sized_period, DayMeets, closing_row, sums_held, charge_by, closed_period, ClosingMeets}
 
--- an opening
+-- an opening, which is held with its lists in their places
+pub placed : (o : Opening) {groups firsts lasts : List ℕ} → groups ≡ (in_places o).groups → firsts ≡ (in_places o).firsts → lasts ≡ (in_places o).lasts
+    → record { n = o.n; k = o.k; groups = groups; firsts = firsts; lasts = lasts } ≡ in_places o
+placed o g f l = λ i. record { n = o.n; k = o.k; groups = g i; firsts = f i; lasts = l i }
+
 module _ (p : Period) (o : Opening) where
   opening_refused : (met : Refusal) → opening_row p o ≡ Err met → OpeningMeets p o (refused_by met) p
   opening_refused met e = record { answer = rw e; period = rw e }

@@ -1,9 +1,10 @@
 -- `open` meets its contract: what `Replies` has for what the refusal table says.
-use mathlib.Core.Path.{refl, sym}
+use mathlib.Core.Path.{sym}
 use native.Mathlib.Omega.{arith}
 use Rattle.std.proofs.lemmas.Result.{err_from_is_err_and}
 use Rattle.validation.proofs.OpeningPasses.{opening_leaves}
-use Rattle.period.proofs.Replies.{while_open, row_met, opening_accepted}
+use Rattle.period.specs.Reading.{brought}
+use Rattle.period.proofs.Replies.{while_open, row_met, placed, opening_accepted}
 use Rattle.period.proofs.Period.open.Goals as goal
 
 pub returns-then-is_open : goal.returns-then-is_open
@@ -25,5 +26,7 @@ places-requires-3 c = let o = (opening_leaves _ (sym c.in_ok-opening_rows.ensure
 
 pub returns : goal.returns
 returns c =
+    let o = brought c.args.n c.args.k c.args.groups.now c.args.firsts.now c.args.lasts.now in
     rw c.without_days.ensures
-    (opening_accepted _ _ (sym c.if-is_open.ensures) (sym c.in_ok-opening_rows.ensures) (rw (c.places.ensures, c.places-2.ensures, c.places-3.ensures) refl))
+    (opening_accepted _ _ (sym c.if-is_open.ensures) (sym c.in_ok-opening_rows.ensures)
+    (placed o c.places.ensures c.places-2.ensures c.places-3.ensures))
